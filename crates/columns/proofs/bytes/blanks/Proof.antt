@@ -1,0 +1,48 @@
+use lib.ListN.{replicate, length, take}
+use borrow.Author.Needs.{needs}
+use mathlib.Core.Path.{_≡_, refl}
+use Prim.Native.Nat.{_≤_, _-_}
+use Rattle.columns.proofs.laws.Bytes.{blank-turn, blank-end}
+use Rattle.columns.proofs.bytes.blanks.Statement.{statement}
+use Rattle.columns.proofs.bytes.blanks.Tie as tie
+
+abbrev Inv-loop : tie.InvT-loop
+Inv-loop out₀ i₀ out i = (i ≤ length out₀) × (length out ≡ length out₀) × (take i out ≡ replicate i 32)
+
+abbrev μ-loop : tie.MeasureT-loop
+μ-loop out₀ i₀ out i = length out₀ - i
+
+loop-holds : tie.Need-loop-holds Inv-loop μ-loop
+loop-holds c = (search needs, refl, refl)
+
+slice-write-out : tie.Need-slice-write-out Inv-loop μ-loop
+slice-write-out c = search needs
+
+add-i : tie.Need-add-i Inv-loop μ-loop
+add-i c = search needs
+
+loop-less : tie.Need-loop-less Inv-loop μ-loop
+loop-less c = search needs
+
+loop-again : tie.Need-loop-again Inv-loop μ-loop
+loop-again c = let l = c .before in (search needs, search needs, blank-turn (l .loop .out) (l .loop .i) (search needs) (l .loop .inv .2))
+
+same-length : tie.Need-same-length Inv-loop μ-loop
+same-length c = c .before .loop .inv .1
+
+returns : tie.Need-returns Inv-loop μ-loop
+returns c = let l = c .before in blank-end _ (l .loop .i) _ (search needs) (search needs) (l .loop .inv .1) (l .loop .inv .2)
+
+pub blanks-spec : {M : Type 1} → statement M
+blanks-spec =
+    tie.close
+    (tie.spec
+    Inv-loop
+    μ-loop
+    loop-holds
+    slice-write-out
+    add-i
+    loop-less
+    loop-again
+    same-length
+    returns)

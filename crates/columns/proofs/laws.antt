@@ -1,0 +1,16 @@
+pub mod Bytes
+pub mod Number
+pub mod Written
+pub mod NumberBack
+pub mod Clear
+pub mod Answers
+pub mod Ranges
+pub mod Puts
+pub mod Table
+pub mod Cursor
+pub mod Places
+pub mod Reader
+pub mod NumberFits
+pub mod ClockBack
+pub mod Columns
+pub mod Writer

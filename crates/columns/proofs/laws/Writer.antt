@@ -1,0 +1,231 @@
+-- Laws of the table's writer: one column as the code comes to it, and the turns of its loop.
+use mathlib.Core.Path.{_≡_, refl, sym, ap, _∙_}
+use mathlib.Core.Bool.{Bool, false, _&&_}
+use mathlib.Core.List.{List, [], _∷_, _++_, append-assoc, append-nil}
+use Prim.Native.Nat.{ℕ, _+_, _-_, _≤_, _<_}
+use native.Mathlib.Omega.{arith}
+use lib.ListN.{length, take, drop, getD, length-append, length-drop}
+use lib.Dec.{eqb, T}
+use lib.IntN.{ℤ}
+use borrow.Author.Tests.{le-ltb, lt-ltb}
+use lib.Seq.{length-take-le, drop-drop, take-add, drop-cons, getD-take, getD-drop}
+use borrow.Rule.Slice.PartMut.{midOf, putMid, mid-len, put-same}
+use Rattle.columns.specs.declared.Outcome.{Outcome}
+use Rattle.columns.specs.declared.column.Column.{Column}
+use Rattle.columns.specs.Answer.{pick, Answer, ok, refusal, both, requiredBlank, wrongLetter, tooShort}
+use Rattle.columns.specs.Bytes.{member}
+use Rattle.columns.specs.Number.{holdsInt, holdsDec, intBytes, decBytes}
+use Rattle.columns.specs.Column.{Slot, missing, Range, allowed, Col, integer, decimal, text, letter, separator, width, slots, texts, good, widths, allSlots, allTexts}
+use Rattle.columns.specs.Clock.{putClock}
+use Rattle.columns.specs.Writing.{putNumber, putText, writeCell, writeColumns, writeLine, writePart}
+use Rattle.columns.specs.Table.{colOf, columnAt, columnsOf, over, outcomeOf, Wrote, WrotePart, Ready, Table, placed}
+use Rattle.columns.proofs.laws.Table.{Kind, kind-of, is-int, is-dec, is-text, is-letter, is-clock, is-separator, col-text, col-letter, col-clock, col-separator, number-col, char-col, columns-more, columns-none, table-good, table-fits, table-low, table-numbers, table-chars, table-line, table-next}
+use Rattle.columns.proofs.laws.Answers.{split, over-whole, refused-of, done-of, wrote-refused, wrote-same, wrote-bytes, wrote-whole}
+use Rattle.columns.proofs.laws.Places.{placed-none, placed-length, placed-placed, placed-take, part-placed}
+use Rattle.columns.proofs.laws.Columns.{cell-written, columns-size}
+use Rattle.columns.specs.declared.Outcome.the-variants as O
+
+-- ---- the answer of each kind of column
+
+module _ (seen : List Slot) (at : ℕ) (ns : List Slot) (t : List ℕ) (c : Col) where
+  pub cell-int : (w : ℕ) (q : Bool) (g : Range) → c ≡ integer w q g → putNumber w q (allowed g seen) at (holdsInt w) (intBytes w) (getD ns 0 missing) ≡ writeCell c seen at ns t
+  unfolding writeCell
+  cell-int w q g e = rw e
+
+  pub cell-dec : (w d : ℕ) (q : Bool) (g : Range) → c ≡ decimal w d q g → putNumber w q (allowed g seen) at (holdsDec w) (decBytes w d) (getD ns 0 missing) ≡ writeCell c seen at ns t
+  unfolding writeCell
+  cell-dec w d q g e = rw e
+
+  pub cell-text : (w : ℕ) (q x : Bool) → c ≡ text w q x → pick (q && eqb (getD t 0 0) 32) (refusal requiredBlank (at + 1)) (putText x at t (ok t)) ≡ writeCell c seen at ns t
+  unfolding writeCell
+  cell-text w q x e = rw e
+
+  pub cell-letter : (s : List ℕ) → c ≡ letter s → putText false at t (pick (member (getD t 0 0) s) (ok t) (refusal wrongLetter (at + 1))) ≡ writeCell c seen at ns t
+  unfolding writeCell
+  cell-letter s e = rw e
+
+  cell-separator : c ≡ separator → ok (32 ∷ []) ≡ writeCell c seen at ns t
+  unfolding writeCell
+  cell-separator e = rw e
+
+-- ---- a column at its places of the record
+
+blind : (c : Column) (ls : List ℕ) (a b : List Slot) (at : ℕ) (ns : List Slot) (t : List ℕ) → 2 ≤ c .kind → Kind (c .kind) → writeCell (colOf c ls) a at ns t ≡ writeCell (colOf c ls) b at ns t
+unfolding writeCell
+blind c ls a b at ns t h (is-int k) = let y : ⊥ = omega arith in absurd y
+blind c ls a b at ns t h (is-dec k) = let y : ⊥ = omega arith in absurd y
+blind c ls a b at ns t h (is-text k) = rw (col-text c ls k)
+blind c ls a b at ns t h (is-letter k) = rw (col-letter c ls k)
+blind c ls a b at ns t h (is-clock k) = rw (col-clock c ls k)
+blind c ls a b at ns t h (is-separator k) = rw (col-separator c ls k)
+
+take-one : (S : List Slot) (k : ℕ) → k < length S → take 1 (drop k S) ≡ getD S k missing ∷ []
+take-one S k h = rw (drop-cons S k missing h)
+
+module _ (c : Column) (ls : List ℕ) (at k t : ℕ) (S : List Slot) (chs : List ℕ) where
+  pub at-number : c .kind < 2 → k < length S → (x : Slot) → getD S k missing ≡ x → writeCell (colOf c []) (take k S) at (x ∷ []) [] ≡ writeCell (colOf c ls) (take k S) at (take (slots (colOf c ls)) (drop k S)) (take (texts (colOf c ls)) (drop t chs))
+  at-number h g x e =
+      let n = number-col c ls h in
+      rw (n .1 .0, n .1 .1, n .0, take-one S k g, e)
+
+  pub at-chars : 2 ≤ c .kind → c .kind < 4 → (ys : List ℕ) → ys ≡ take (texts (colOf c ls)) (drop t chs) → writeCell (colOf c ls) [] at [] ys ≡ writeCell (colOf c ls) (take k S) at (take (slots (colOf c ls)) (drop k S)) (take (texts (colOf c ls)) (drop t chs))
+  at-chars g h ys e = rw (char-col c ls g h .0, ← e) (blind c ls [] (take k S) at [] ys g (kind-of (c .kind)))
+
+  pub at-clock : c .kind ≡ 4 → putClock at (getD S k missing) (getD S (k + 1) missing) (getD S (k + 2) missing) ≡ writeCell (colOf c ls) (take k S) at (take (slots (colOf c ls)) (drop k S)) (take (texts (colOf c ls)) (drop t chs))
+  unfolding writeCell
+  at-clock h =
+      let z : k + 0 ≡ k = omega arith in
+      let a : getD (take 3 (drop k S)) 0 missing ≡ getD S k missing = getD-take 3 (drop k S) 0 missing (omega arith) ∙ getD-drop k S 0 missing ∙ rw z in
+      let b : getD (take 3 (drop k S)) 1 missing ≡ getD S (k + 1) missing = getD-take 3 (drop k S) 1 missing (omega arith) ∙ getD-drop k S 1 missing in
+      let d : getD (take 3 (drop k S)) 2 missing ≡ getD S (k + 2) missing = getD-take 3 (drop k S) 2 missing (omega arith) ∙ getD-drop k S 2 missing in
+      rw (col-clock c ls h, a, b, d)
+
+  pub at-separator : 5 ≤ c .kind → ok (32 ∷ []) ≡ writeCell (colOf c ls) (take k S) at (take (slots (colOf c ls)) (drop k S)) (take (texts (colOf c ls)) (drop t chs))
+  at-separator h = cell-separator (take k S) at _ _ (colOf c ls) (col-separator c ls h)
+
+-- ---- lines in two parts
+
+both-none : (o : Answer (List ℕ)) → o ≡ both _++_ (ok []) o
+both-none (ok xs) = refl
+both-none (refusal n k) = refl
+
+both-both : (a b : List ℕ) (o : Answer (List ℕ)) → both _++_ (ok a) (both _++_ (ok b) o) ≡ both _++_ (ok (a ++ b)) o
+both-both a b (ok xs) = rw append-assoc
+both-both a b (refusal n k) = refl
+
+-- where nothing is refused, what was written is the line
+pub part-wrote : (cs : List Col) (seen : List Slot) (at : ℕ) (ns : List Slot) (t ys : List ℕ) → writeColumns cs seen at ns t ≡ ok ys → writePart cs seen at ns t ≡ ys
+unfolding writeColumns writePart
+part-wrote [] seen at ns t ys e = cc
+part-wrote (c ∷ cs) seen at ns t ys e =
+    let s = split _++_ (writeCell c seen at (take (slots c) ns) (take (texts c) t)) (writeColumns cs (seen ++ take (slots c) ns) (at + width c) (drop (slots c) ns) (drop (texts c) t)) ys e in
+    rw (s .first, part-wrote cs (seen ++ take (slots c) ns) (at + width c) (drop (slots c) ns) (drop (texts c) t) (s .b) (s .second)) (s .is)
+
+-- ---- the turns of the loop
+
+-- `done` was written after the first `start` bytes; the columns `rest` are left, with the record from numbers k and text t on
+pub record Going (cs : List Col) (start : ℕ) (S : List Slot) (chs out₀ : List ℕ) (nv : ℕ) (rest : List Col) (at k t : ℕ) (out : List ℕ) : Type 0 where
+  pub done : List ℕ
+  pub here : at ≡ start + length done
+  pub bytes : out ≡ placed start done out₀
+  pub ready : Table rest at (length out₀) k (length S) nv t (length chs)
+  pub wrote : writeColumns cs [] start S chs ≡ both _++_ (ok done) (writeColumns rest (take k S) at (drop k S) (drop t chs))
+  pub part : writePart cs [] start S chs ≡ done ++ writePart rest (take k S) at (drop k S) (drop t chs)
+
+pub going-start : (cs : List Col) (start : ℕ) (S : List Slot) (chs out₀ : List ℕ) (nf nv : ℕ) → length S ≡ nf → Table cs start (length out₀) 0 nf nv 0 (length chs) → Going cs start S chs out₀ nv cs start 0 0 out₀
+going-start cs start S chs out₀ nf nv e p =
+    record {
+      done = [];
+      here = omega arith;
+      bytes = placed-none start out₀;
+      ready = rw e p;
+      wrote = both-none (writeColumns cs [] start S chs);
+      part = refl;
+    }
+
+module _ {cs : List Col} {start : ℕ} {S : List Slot} {chs out₀ : List ℕ} {nv : ℕ} {rest : List Col} {at k t : ℕ} {out : List ℕ} (g : Going cs start S chs out₀ nv rest at k t out) where
+  pub out-size : length out ≡ length out₀
+  out-size = ap length (g .bytes) ∙ placed-length start (g .done) out₀ (omega (arith, g .here, g .ready .line))
+
+  going-part : (r : Outcome) (a : Answer (List ℕ)) → writeColumns cs [] start S chs ≡ a → writePart cs [] start S chs ≡ g .done → r ≡ outcomeOf a → WrotePart (writeColumns cs [] start S chs) (writePart cs [] start S chs) start r out₀ out
+  going-part r a e p q = record { answer = rw e q; bytes = rw p (g .bytes) }
+
+pub going-end : {cs : List Col} {start : ℕ} {S : List Slot} {chs out₀ : List ℕ} {nv : ℕ} {at k t : ℕ} {out : List ℕ} → Going cs start S chs out₀ nv [] at k t out → WrotePart (writeColumns cs [] start S chs) (writePart cs [] start S chs) start O.Done out₀ out
+unfolding writeColumns writePart
+going-end g = going-part g O.Done (ok (g .done)) (g .wrote ∙ ap ok (append-nil (g .done))) (g .part ∙ append-nil (g .done)) refl
+
+module _ {cs : List Col} {start : ℕ} {S : List Slot} {chs out₀ : List ℕ} {nv : ℕ} {c : Col} {rest : List Col} {at k t : ℕ} {out : List ℕ} (g : Going cs start S chs out₀ nv (c ∷ rest) at k t out) where
+  module _ (w : ℕ) (e : w ≡ width c) where
+    pub turn-fits : at + w ≤ length out
+    turn-fits = omega (arith, out-size g, table-fits (g .ready) w e)
+
+    pub turn-mid : length (midOf at (at + w - at) out) ≡ w
+    turn-mid =
+        let z : at + w - at ≡ w = omega arith in
+        mid-len at (at + w) out turn-fits ∙ z
+
+    pub turn-ready : (nf : ℕ) → length S ≡ nf → Ready c (length (midOf at (at + w - at) out)) at k nf nv t (length chs)
+    turn-ready nf l =
+        record {
+          fine = table-good (g .ready) .0;
+          wide = turn-mid ∙ e;
+          low = omega (arith, turn-mid, table-low (g .ready) w e);
+          same = sym l ∙ g .ready .same;
+          numbers = omega (arith, table-numbers (g .ready));
+          chars = omega (arith, table-chars (g .ready));
+        }
+
+    module _ {mid : List ℕ} where
+      pub turn-refused : (m j : ℕ) → Wrote (writeCell c (take k S) at (take (slots c) (drop k S)) (take (texts c) (drop t chs))) (O.Refused m j) (midOf at (at + w - at) out) mid → WrotePart (writeColumns cs [] start S chs) (writePart cs [] start S chs) start (O.Refused m j) out₀ (putMid at (at + w - at) out mid)
+      unfolding writeColumns writePart
+      turn-refused m j s =
+          let q = refused-of (writeCell c (take k S) at (take (slots c) (drop k S)) (take (texts c) (drop t chs))) m j (s .answer) in
+          let b : mid ≡ midOf at (at + w - at) out = wrote-same s m j q in
+          let o : putMid at (at + w - at) out mid ≡ out = rw b (put-same at (at + w - at) out) in
+          rw o (going-part g (O.Refused m j) (refusal m j) (g .wrote ∙ rw q) (g .part ∙ rw q (append-nil (g .done))) refl)
+
+      turn-wrote : (at₁ k₁ t₁ : ℕ) → at₁ ≡ at + width c → k₁ ≡ k + slots c → t₁ ≡ t + texts c → (ys : List ℕ) → length ys ≡ width c → writeCell c (take k S) at (take (slots c) (drop k S)) (take (texts c) (drop t chs)) ≡ ok ys → mid ≡ ys → Going cs start S chs out₀ nv rest at₁ k₁ t₁ (putMid at (at + w - at) out mid)
+      unfolding writeColumns writePart
+      turn-wrote at₁ k₁ t₁ ea ek et ys l q b =
+          let z : at + w ≡ at + length ys = omega arith in
+          record {
+            done = g .done ++ ys;
+            here = omega (arith, g .here, length-append (g .done) ys);
+            bytes =
+                ap (putMid at (at + w - at) out) b
+                ∙ part-placed at (at + w) ys out z
+                ∙ ap (placed at ys) (g .bytes)
+                ∙ placed-placed start at (g .done) ys out₀ (g .here) (omega (arith, table-line (g .ready)));
+            ready = table-next (g .ready) at₁ k₁ t₁ ea ek et;
+            wrote =
+                rw (ea, ek, et)
+                (g .wrote
+                ∙ rw (q, drop-drop, drop-drop, take-add k (slots c) S)
+                (both-both (g .done) ys (writeColumns rest (take k S ++ take (slots c) (drop k S)) (at + width c) (drop (k + slots c) S) (drop (t + texts c) chs))));
+            part =
+                rw (ea, ek, et)
+                (g .part
+                ∙ rw (q, drop-drop, drop-drop, take-add k (slots c) S)
+                (sym (append-assoc (g .done) ys (writePart rest (take k S ++ take (slots c) (drop k S)) (at + width c) (drop (k + slots c) S) (drop (t + texts c) chs)))));
+          }
+
+      pub turn-done : (at₁ k₁ t₁ : ℕ) → at₁ ≡ at + width c → k₁ ≡ k + slots c → t₁ ≡ t + texts c → Wrote (writeCell c (take k S) at (take (slots c) (drop k S)) (take (texts c) (drop t chs))) O.Done (midOf at (at + w - at) out) mid → Going cs start S chs out₀ nv rest at₁ k₁ t₁ (putMid at (at + w - at) out mid)
+      turn-done at₁ k₁ t₁ ea ek et s =
+          let d = done-of (writeCell c (take k S) at (take (slots c) (drop k S)) (take (texts c) (drop t chs))) (s .answer) in
+          let lk : length (take (slots c) (drop k S)) ≡ slots c = length-take-le (slots c) (drop k S) (omega (arith, length-drop k S, table-numbers (g .ready))) in
+          let lt : length (take (texts c) (drop t chs)) ≡ texts c = length-take-le (texts c) (drop t chs) (omega (arith, length-drop t chs, table-chars (g .ready))) in
+          let v = cell-written c (take k S) at (take (slots c) (drop k S)) (take (texts c) (drop t chs)) (d .value) (table-good (g .ready) .0) lk lt (d .is) in
+          turn-wrote at₁ k₁ t₁ ea ek et (d .value) (v .size) (d .is)
+          (wrote-bytes s (d .value) (d .is) ∙ over-whole (d .value) (midOf at (at + w - at) out) (omega (arith, v .size, turn-mid)))
+
+module _ (s : List ℕ) (r : List ℤ) (ls : List ℕ) (i n : ℕ) {cs : List Col} {start : ℕ} {S : List Slot} {chs out₀ : List ℕ} {nv : ℕ} {at k t : ℕ} {out : List ℕ} where
+  -- the next row of the table
+  pub going-row : (row : Column) → i < n → row ≡ columnAt s r i → Going cs start S chs out₀ nv (columnsOf s r ls i (n - i)) at k t out → Going cs start S chs out₀ nv (colOf row ls ∷ columnsOf s r ls (i + 1) (n - (i + 1))) at k t out
+  going-row row h e g = rw (e, ← columns-more s r ls i n h) g
+
+  pub going-last : n ≤ i → Going cs start S chs out₀ nv (columnsOf s r ls i (n - i)) at k t out → Going cs start S chs out₀ nv [] at k t out
+  going-last h g = rw (← columns-none s r ls i n h) g
+
+-- ---- a line of its own, over the lent bytes
+
+module _ (cs : List Col) (S : List Slot) (chs from : List ℕ) where
+  pub line-short : length from < widths cs → Wrote (writeLine cs S chs (length from)) (O.Refused tooShort 0) from from
+  unfolding writeLine
+  line-short h = wrote-refused _ from tooShort 0 (rw (lt-ltb _ _ h))
+
+  module _ {line line₁ : List ℕ} (h : widths cs ≤ length from) where
+    pub line-refused : (m j : ℕ) → WrotePart (writeColumns cs [] 0 S chs) (writePart cs [] 0 S chs) 0 (O.Refused m j) line line₁ → Wrote (writeLine cs S chs (length from)) (O.Refused m j) from from
+    unfolding writeLine
+    line-refused m j p = wrote-refused _ from m j (rw (le-ltb _ _ h) (refused-of _ m j (p .answer)))
+
+    pub line-done : (to : List ℕ) → T (good cs) → allSlots cs ≤ length S → allTexts cs ≤ length chs → widths cs ≤ length line → WrotePart (writeColumns cs [] 0 S chs) (writePart cs [] 0 S chs) 0 O.Done line line₁ → to ≡ over (take (widths cs) line₁) from → Wrote (writeLine cs S chs (length from)) O.Done from to
+    unfolding writeLine
+    line-done to g a b l p e =
+        let d = done-of (writeColumns cs [] 0 S chs) (p .answer) in
+        let v = columns-size cs [] 0 S chs (d .value) g a b (d .is) in
+        let q : take (widths cs) line₁ ≡ d .value =
+        ap (take (widths cs)) (p .bytes ∙ ap (λ (x : List ℕ). placed 0 x line) (part-wrote cs [] 0 S chs (d .value) (d .is)))
+        ∙ placed-take 0 (widths cs) (d .value) line (omega (arith, v)) l in
+        let f : to ≡ over (d .value) from = e ∙ ap (λ (x : List ℕ). over x from) q in
+        let w : writeLine cs S chs (length from) ≡ ok (d .value) = rw (le-ltb _ _ h) (d .is) in
+        wrote-whole w f

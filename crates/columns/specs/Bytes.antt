@@ -1,0 +1,47 @@
+-- The bytes of a line. Document 01, "Numbers in columns": text bytes are codes 32 to 126, any other byte is barred.
+use Prim.Native.Nat.{ℕ, _+_}
+use mathlib.Core.List.{List, [], _∷_}
+use mathlib.Core.Bool.{Bool, true, false, _&&_}
+use lib.Dec.{leb, eqb}
+use Rattle.columns.specs.Answer.{pick}
+
+abbrev pub isText : ℕ → Bool
+isText b = leb 32 b && leb b 126
+
+abbrev pub isDigit : ℕ → Bool
+isDigit b = leb 48 b && leb b 57
+
+abbrev pub isBracket : ℕ → Bool
+isBracket b = pick (eqb b 91) true (eqb b 93)
+
+abbrev pub isNone : List ℕ → Bool
+isNone [] = true
+isNone (b ∷ s) = false
+
+-- the bytes after the leading blanks
+unfoldable pub trim : List ℕ → List ℕ
+trim [] = []
+trim (b ∷ s) = pick (eqb b 32) (trim s) (b ∷ s)
+
+-- nothing but blanks
+abbrev pub allBlank : List ℕ → Bool
+allBlank f = isNone (trim f)
+
+-- a byte that may stand in a column; where brackets are barred, no bracket
+abbrev pub isAllowed : Bool → ℕ → Bool
+isAllowed bars b = isText b && pick bars (pick (isBracket b) false true) true
+
+abbrev pub inside : ℕ → ℕ → ℕ → Bool
+inside from to column = leb from column && leb column to
+
+-- the lowest column with a barred byte, brackets barred in the columns `from` to `to`; 0 where there is none
+-- the bytes are those from the given column on
+unfoldable pub barred : ℕ → ℕ → ℕ → List ℕ → ℕ
+barred from to column [] = 0
+barred from to column (b ∷ s) =
+    pick (isAllowed (inside from to column) b) (barred from to (column + 1) s) column
+
+-- a letter of a set
+unfoldable pub member : ℕ → List ℕ → Bool
+member b [] = false
+member b (x ∷ s) = pick (eqb b x) true (member b s)

@@ -1,0 +1,9 @@
+pub mod Answer
+pub mod Bytes
+pub mod Number
+pub mod Column
+pub mod Clock
+pub mod Reading
+pub mod Writing
+pub mod Table
+pub mod Cell

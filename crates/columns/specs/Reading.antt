@@ -1,0 +1,59 @@
+-- What a line answers when it is read by a list of columns. Document 01, "Numbers answered": columns left to right,
+-- each 4 (a separator), or 5, 6, 7, 8, at the field's first column.
+use Prim.Native.Nat.{ℕ, _+_}
+use mathlib.Core.List.{List, [], _∷_, _++_}
+use mathlib.Core.Bool.{Bool, _&&_}
+use lib.IntN.{ℤ}
+use lib.ListN.{take, drop, getD}
+use lib.Dec.{eqb}
+use Rattle.columns.specs.Answer.{pick, Answer, ok, refusal, chain, notBlank, requiredBlank, badForm, outOfRange, wrongLetter}
+use Rattle.columns.specs.Bytes.{allBlank, member}
+use Rattle.columns.specs.Number.{intField, decField}
+use Rattle.columns.specs.Column.{Slot, missing, given, Rec, joined, allowed, Col, integer, decimal, text, letter, clock, separator, width}
+use Rattle.columns.specs.Clock.{clockField, judgeClock}
+use Rattle.columns.specs.declared.number.Field.{Field}
+use Rattle.columns.specs.declared.number.Field.the-variants as F
+
+abbrev pub nothing : Rec
+nothing = record { numbers = []; chars = [] }
+
+abbrev pub oneNumber : Slot → Rec
+oneNumber x = record { numbers = x ∷ []; chars = [] }
+
+abbrev pub someText : List ℕ → Rec
+someText f = record { numbers = []; chars = f }
+
+-- required and blank 5, form 6, range 7
+abbrev pub judge : Bool → (ℤ → Bool) → ℕ → Field → Answer Rec
+judge q fits at F.Missing = pick q (refusal requiredBlank (at + 1)) (ok (oneNumber missing))
+judge q fits at F.Bad = refusal badForm (at + 1)
+judge q fits at (F.Value v) = pick (fits v) (ok (oneNumber (given v))) (refusal outOfRange (at + 1))
+
+-- the column in the bytes f, after the first `at` bytes of the line and the numbers `seen`
+unfoldable pub readCell : Col → List Slot → ℕ → List ℕ → Answer Rec
+readCell (integer w q g) seen at f = judge q (allowed g seen) at (intField f)
+readCell (decimal w d q g) seen at f = judge q (allowed g seen) at (decField d f)
+readCell (text w q x) seen at f =
+    pick (q && eqb (getD f 0 0) 32) (refusal requiredBlank (at + 1)) (ok (someText f))
+readCell (letter s) seen at f =
+    pick (member (getD f 0 0) s) (ok (someText f)) (refusal wrongLetter (at + 1))
+readCell clock seen at f = judgeClock at (clockField f)
+readCell separator seen at f = pick (allBlank f) (ok nothing) (refusal notBlank (at + 1))
+
+-- the columns, one after the other; `line` is what comes after the first `at` bytes
+unfoldable pub readColumns : List Col → List Slot → ℕ → List ℕ → Answer Rec
+readColumns [] seen at line = ok nothing
+readColumns (c ∷ cs) seen at line =
+    chain joined (readCell c seen at (take (width c) line))
+    (λ r. readColumns cs (seen ++ r .numbers) (at + width c) (drop (width c) line))
+
+-- what was read before the first refusal: the whole record where there is none
+abbrev pub readBefore : Answer Rec → (Rec → Rec) → Rec
+readBefore (refusal n k) o = nothing
+readBefore (ok r) o = joined r (o r)
+
+unfoldable pub readPart : List Col → List Slot → ℕ → List ℕ → Rec
+readPart [] seen at line = nothing
+readPart (c ∷ cs) seen at line =
+    readBefore (readCell c seen at (take (width c) line))
+    (λ r. readPart cs (seen ++ r .numbers) (at + width c) (drop (width c) line))

@@ -1,0 +1,143 @@
+// Number fields iW and fW.D, read.
+use super::bytes::skip_blanks;
+ghost use mathlib.Core.Path.{_≡_};
+ghost use Prim.Native.Nat.{_+_, _-_, _*_, _^_, _≤_, _<_};
+ghost use lib.ListN.{length};
+ghost use lib.Seq.{slice};
+ghost use Rattle.columns.specs.Number.{digits, number, scan, fraction, magnitude, signed, withSign, value, intField, decField};
+
+// Digits to the last column.
+pub enum Digits {
+    Number(u64),
+    NoNumber,
+}
+
+// A sign and a number, before minus zero becomes zero.
+pub enum Scan {
+    Blank,
+    Number(bool, u64),
+    Malformed,
+}
+
+// What a number field holds.
+pub enum Field {
+    Missing,
+    Value(i64),
+    Bad,
+}
+
+// The digits from `from` to `to`, after the number `before`.
+fn read_digits(line: &[u8], from: usize, to: usize, before: u64) -> Digits
+    requires { ⌜ (from ≤ to) × ((to ≤ length (now line)) × ((before + 1) * 10 ^ (to - from) ≤ 10 ^ 18)) ⌝ }
+    ensures { λ r. ⌜ r ≡ digits before (slice from to (now (line .entry))) ⌝ }
+{
+    let mut n = before;
+    let mut i = from;
+    while i < to {
+        let b = line[i];
+        if b < 48 {
+            return Digits::NoNumber;
+        }
+        if 57 < b {
+            return Digits::NoNumber;
+        }
+        n = n * 10 + ((b - 48) as u64);
+        i += 1;
+    }
+    Digits::Number(n)
+}
+
+// The number with its sign.
+fn with_sign(minus: bool, n: u64) -> i64
+    requires { ⌜ n < 10 ^ 18 ⌝ }
+    ensures { λ r. ⌜ r ≡ signed minus n ⌝ }
+{
+    if minus { 0 - (n as i64) } else { n as i64 }
+}
+
+// One or more digits from `from` to `to`, and their sign.
+fn scan_number(line: &[u8], from: usize, to: usize, minus: bool) -> Scan
+    requires { ⌜ (from ≤ to) × ((to ≤ length (now line)) × (to - from ≤ 18)) ⌝ }
+    ensures { λ r. ⌜ r ≡ withSign minus (number (slice from to (now (line .entry)))) ⌝ }
+{
+    if from == to {
+        return Scan::Malformed;
+    }
+    match read_digits(line, from, to, 0) {
+        Digits::Number(n) => Scan::Number(minus, n),
+        Digits::NoNumber => Scan::Malformed,
+    }
+}
+
+// Blanks, an optional minus, then digits from `from` to `to`.
+fn scan_whole(line: &[u8], from: usize, to: usize) -> Scan
+    requires { ⌜ (from ≤ to) × ((to ≤ length (now line)) × (to - from ≤ 18)) ⌝ }
+    ensures { λ r. ⌜ r ≡ scan (slice from to (now (line .entry))) ⌝ }
+{
+    let start = skip_blanks(line, from, to);
+    if start == to {
+        return Scan::Blank;
+    }
+    if line[start] == 45 {
+        return scan_number(line, start + 1, to, true);
+    }
+    scan_number(line, start, to, false)
+}
+
+// The point and the digits after it, from `from` to `to`, after the whole part.
+fn scan_fraction(line: &[u8], from: usize, to: usize, whole: Scan) -> Scan
+    requires { ⌜ (from < to) × ((to ≤ length (now line)) × ((magnitude whole + 1) * 10 ^ (to - (from + 1)) ≤ 10 ^ 18)) ⌝ }
+    ensures { λ r. ⌜ r ≡ fraction whole (slice from to (now (line .entry))) ⌝ }
+{
+    match whole {
+        Scan::Blank => {
+            let start = skip_blanks(line, from, to);
+            if start == to {
+                Scan::Blank
+            } else {
+                Scan::Malformed
+            }
+        }
+        Scan::Number(minus, n) => {
+            if line[from] == 46 {
+                match read_digits(line, from + 1, to, n) {
+                    Digits::Number(m) => Scan::Number(minus, m),
+                    Digits::NoNumber => Scan::Malformed,
+                }
+            } else {
+                Scan::Malformed
+            }
+        }
+        Scan::Malformed => Scan::Malformed,
+    }
+}
+
+fn field_of(s: Scan) -> Field
+    requires { ⌜ magnitude s < 10 ^ 18 ⌝ }
+    ensures { λ r. ⌜ r ≡ value s ⌝ }
+{
+    match s {
+        Scan::Blank => Field::Missing,
+        Scan::Number(minus, n) => Field::Value(with_sign(minus, n)),
+        Scan::Malformed => Field::Bad,
+    }
+}
+
+// The integer field in the `width` columns after the first `at`.
+pub fn read_int(line: &[u8], at: usize, width: usize) -> Field
+    requires { ⌜ (at + width ≤ length (now line)) × (width ≤ 18) ⌝ }
+    ensures { λ r. ⌜ r ≡ intField (slice at (at + width) (now (line .entry))) ⌝ }
+{
+    field_of(scan_whole(line, at, at + width))
+}
+
+// The decimal field in the `width` columns after the first `at`, with a number of decimals.
+pub fn read_dec(line: &[u8], at: usize, width: usize, decimals: usize) -> Field
+    requires { ⌜ (at + width ≤ length (now line)) × ((decimals < width) × (width ≤ 18)) ⌝ }
+    ensures { λ r. ⌜ r ≡ decField decimals (slice at (at + width) (now (line .entry))) ⌝ }
+{
+    let end = at + width;
+    let point = end - (decimals + 1);
+    let whole = scan_whole(line, at, point);
+    field_of(scan_fraction(line, point, end, whole))
+}
