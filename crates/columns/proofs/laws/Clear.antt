@@ -36,7 +36,7 @@ module _ {bars : Bool} where
 
 -- in columns that bar brackets, or do not, all alike
 module _ (from to : ℕ) (bars : Bool) where
-  clear-none : (k : ℕ) {s : List ℕ} → ((i : ℕ) → k ≤ i → i < k + length s → inside from to i ≡ bars) → Clear bars s → barred from to k s ≡ 0
+  pub clear-none : (k : ℕ) {s : List ℕ} → ((i : ℕ) → k ≤ i → i < k + length s → inside from to i ≡ bars) → Clear bars s → barred from to k s ≡ 0
   unfolding barred
   clear-none k f none = refl
   clear-none k f (more {b} {s} e p) =
@@ -46,7 +46,7 @@ module _ (from to : ℕ) (bars : Bool) where
   none-cons true b k s e f h q = more e (f q)
   none-cons false b k s e f h q = let y : ⊥ = omega arith in absurd y
 
-  none-clear : (k : ℕ) (s : List ℕ) → 0 < k → ((i : ℕ) → k ≤ i → i < k + length s → inside from to i ≡ bars) → barred from to k s ≡ 0 → Clear bars s
+  pub none-clear : (k : ℕ) (s : List ℕ) → 0 < k → ((i : ℕ) → k ≤ i → i < k + length s → inside from to i ≡ bars) → barred from to k s ≡ 0 → Clear bars s
   unfolding barred
   none-clear k [] h f e = none
   none-clear k (b ∷ s) h f e =

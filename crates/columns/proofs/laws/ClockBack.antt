@@ -23,6 +23,7 @@ use Rattle.columns.proofs.laws.Ranges.{below}
 use Rattle.columns.proofs.laws.Puts.{clock-length}
 use Rattle.columns.proofs.laws.Answers.{held}
 use Rattle.columns.proofs.laws.NumberFits.{int-holds, dec-holds}
+use Rattle.columns.proofs.laws.Tests.{both-true}
 use Rattle.columns.specs.declared.number.Field.the-variants as F
 use Rattle.columns.specs.declared.clock.Time.the-variants as K
 
@@ -40,10 +41,6 @@ zero-dec a d n h =
     let l : length (digitsOf (suc a) (n / 10 ^ d)) ≡ suc a = digits-length (suc a) (n / 10 ^ d) in
     let len : length (digitsOf (suc a) (n / 10 ^ d) ++ 46 ∷ digitsOf d n) - (d + 1) ≡ suc a = omega (arith, length-append (digitsOf (suc a) (n / 10 ^ d)) (46 ∷ digitsOf d n), digits-length d n) in
     rw (len, take-at (digitsOf (suc a) (n / 10 ^ d)) (46 ∷ digitsOf d n) (suc a) l, drop-at (digitsOf (suc a) (n / 10 ^ d)) (46 ∷ digitsOf d n) (suc a) l, digits-scan a (n / 10 ^ d) h, digits-split d n)
-
-both-true : (s t : Bool) → s && t ≡ true → (s ≡ true) × (t ≡ true)
-both-true true t e = (refl, e)
-both-true false t e = let z : _≡_ {A = ℕ} 0 1 = cc in let y : ⊥ = omega arith in absurd y
 
 -- ---- the parts of the written time
 

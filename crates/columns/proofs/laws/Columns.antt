@@ -20,7 +20,7 @@ use Rattle.columns.proofs.laws.Clear.{Clear, clear-blanks, clear-int, c
 use Rattle.columns.proofs.laws.Answers.{passed, held, split}
 use Rattle.columns.proofs.laws.NumberBack.{int-back, int-blank, int-length, dec-back, dec-blank, dec-length}
 use Rattle.columns.proofs.laws.ClockBack.{clock-back, three-of}
-use Rattle.columns.proofs.laws.Table.{T-and}
+use Rattle.columns.proofs.laws.Tests.{T-and}
 use Rattle.columns.specs.declared.number.Field.the-variants as F
 
 -- ---- short lists

@@ -1,6 +1,6 @@
 -- Laws of tables: the column of a row by its kind, its sizes, and the numbers of a record.
 use mathlib.Core.Path.{_≡_, refl, sym, ap, _∙_}
-use mathlib.Core.Bool.{Bool, true, false, _&&_}
+use mathlib.Core.Bool.{Bool, _&&_}
 use mathlib.Core.List.{List, [], _∷_, _++_}
 use Prim.Native.Nat.{ℕ, zero, suc, _+_, _-_, _*_, _≤_, _<_}
 use native.Mathlib.Omega.{arith}
@@ -13,10 +13,7 @@ use Rattle.columns.specs.declared.column.Column.{Column}
 use Rattle.columns.specs.Answer.{pick}
 use Rattle.columns.specs.Column.{Slot, missing, given, Range, span, Col, integer, decimal, text, letter, clock, separator, width, slots, texts, goodCol, good, widths, allSlots, allTexts}
 use Rattle.columns.specs.Table.{rangeOf, colOf, columnAt, columnsOf, slotsBy, textsBy, slotOf, slotsOf, flagOf, valueOf, flagsOf, valuesOf, Table}
-
-pub T-and : (s t : Bool) → T (s && t) → T s × T t
-T-and true t p = (tt, p)
-T-and false t p = absurd p
+use Rattle.columns.proofs.laws.Tests.{T-and}
 
 -- ---- columns by their kind
 

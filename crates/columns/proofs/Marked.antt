@@ -1,0 +1,68 @@
+-- The marked values of f5.1, read and written, as one table. Document 01, "Marked values".
+use mathlib.Core.Path.{_≡_, refl}
+use mathlib.Core.List.{List, [], _∷_, map}
+use Prim.Native.Nat.{ℕ}
+use lib.IntN.{ℤ, pos, negsuc}
+use Rattle.columns.specs.Answer.{Answer, ok, refusal, badForm, tooWide}
+use Rattle.columns.specs.Bytes.{trim}
+use Rattle.columns.specs.Number.{digits, number, signedNumber, scan, fraction, decField, holdsDec}
+use Rattle.columns.specs.Column.{Slot, missing, given, Rec, allowed, span, optional, Col, decimal}
+use Rattle.columns.specs.Reading.{readCell}
+use Rattle.columns.specs.Writing.{writeCell}
+
+-- a field of columns 1 to 5 that holds any number that f5.1 can hold
+abbrev f51 : Col
+f51 = decimal 5 1 optional (span (negsuc 998) (pos 9999))
+
+-- what is asked of the field, and what it answers: its number, or the number of the refusal
+pub data Asked : Type 0 where
+  reads : List ℕ → Asked
+  writes : ℤ → Asked
+
+pub data Answered : Type 0 where
+  reading : Slot → Answered
+  written : Answered
+  refused : ℕ → Answered
+
+abbrev pub firstNumber : List Slot → Answered
+firstNumber [] = written
+firstNumber (x ∷ ns) = reading x
+
+abbrev pub ofRead : Answer Rec → Answered
+ofRead (ok r) = firstNumber (r .numbers)
+ofRead (refusal n k) = refused n
+
+abbrev pub ofWrite : Answer (List ℕ) → Answered
+ofWrite (ok ys) = written
+ofWrite (refusal n k) = refused n
+
+abbrev pub answer : Asked → Answered
+answer (reads f) = ofRead (readCell f51 [] 0 f)
+answer (writes v) = ofWrite (writeCell f51 [] 0 (given v ∷ []) [])
+
+pub record Row : Type 0 where
+  pub asked : Asked
+  pub answered : Answered
+
+abbrev pub row : Asked → Answered → Row
+row a b = record { asked = a; answered = b }
+
+abbrev pub table : List Row
+table =
+    -- `     `, `  0.0`, ` -0.0`, ` -0.5`, `-99.9`, `999.9`, `   .5`, ` 5.0 `
+    row (reads (32 ∷ 32 ∷ 32 ∷ 32 ∷ 32 ∷ [])) (reading missing)
+    ∷ row (reads (32 ∷ 32 ∷ 48 ∷ 46 ∷ 48 ∷ [])) (reading (given (pos 0)))
+    ∷ row (reads (32 ∷ 45 ∷ 48 ∷ 46 ∷ 48 ∷ [])) (reading (given (pos 0)))
+    ∷ row (reads (32 ∷ 45 ∷ 48 ∷ 46 ∷ 53 ∷ [])) (reading (given (negsuc 4)))
+    ∷ row (reads (45 ∷ 57 ∷ 57 ∷ 46 ∷ 57 ∷ [])) (reading (given (negsuc 998)))
+    ∷ row (reads (57 ∷ 57 ∷ 57 ∷ 46 ∷ 57 ∷ [])) (reading (given (pos 9999)))
+    ∷ row (reads (32 ∷ 32 ∷ 32 ∷ 46 ∷ 53 ∷ [])) (refused badForm)
+    ∷ row (reads (32 ∷ 53 ∷ 46 ∷ 48 ∷ 32 ∷ [])) (refused badForm)
+    -- 10000 and -1000
+    ∷ row (writes (pos 10000)) (refused tooWide)
+    ∷ row (writes (negsuc 999)) (refused tooWide)
+    ∷ []
+
+pub marked : map (λ r. answer (r .asked)) table ≡ map (λ r. r .answered) table
+unfolding readCell writeCell allowed decField holdsDec fraction scan signedNumber number digits trim
+marked = refl
