@@ -6,7 +6,7 @@ ghost use Prim.Native.Nat.{_+_, _≤_};
 ghost use lib.ListN.{length, drop, replicate};
 ghost use lib.Seq.{slice};
 ghost use Rattle.columns.specs.Answer.{pick};
-ghost use Rattle.columns.specs.Bytes.{trim, isBracket, isAllowed, inside, barred, member};
+ghost use Rattle.columns.specs.Bytes.{trim, isDigit, isBracket, isAllowed, inside, barred, member};
 
 // All blank.
 pub fn blanks(out: &mut [u8])
@@ -44,6 +44,15 @@ pub fn skip_blanks(line: &[u8], from: usize, to: usize) -> usize
         i += 1;
     }
     i
+}
+
+pub fn is_digit(b: u8) -> bool
+    ensures { λ r. ⌜ r ≡ isDigit b ⌝ }
+{
+    if b < 48 {
+        return false;
+    }
+    b <= 57
 }
 
 pub fn is_bracket(b: u8) -> bool

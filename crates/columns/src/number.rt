@@ -1,4 +1,5 @@
 // Number fields iW and fW.D, read.
+use super::bytes::is_digit;
 use super::bytes::skip_blanks;
 ghost use mathlib.Core.Path.{_≡_};
 ghost use Prim.Native.Nat.{_+_, _-_, _*_, _^_, _≤_, _<_};
@@ -35,10 +36,7 @@ fn read_digits(line: &[u8], from: usize, to: usize, before: u64) -> Digits
     let mut i = from;
     while i < to {
         let b = line[i];
-        if b < 48 {
-            return Digits::NoNumber;
-        }
-        if 57 < b {
+        if !is_digit(b) {
             return Digits::NoNumber;
         }
         n = n * 10 + ((b - 48) as u64);

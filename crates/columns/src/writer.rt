@@ -283,11 +283,10 @@ pub fn write_columns(
     }
     let mut line = [32u8; 512];
     let r = put_columns(flags, values, text, shape, ranges, letters, n, &mut line, 0);
-    match r {
-        Outcome::Refused(m, column) => Outcome::Refused(m, column),
-        Outcome::Done => {
-            copy(out, &line[0..width]);
-            Outcome::Done
-        }
+    let mut count = width;
+    if let Outcome::Refused(_, _) = r {
+        count = 0;
     }
+    copy(out, &line[0..count]);
+    r
 }

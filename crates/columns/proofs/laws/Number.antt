@@ -1,6 +1,6 @@
 -- Laws of number fields as they are read: one step of each definition at a place of a line, and the bounds of what was read.
 use mathlib.Core.Path.{_≡_, refl, sym, subst}
-use mathlib.Core.Bool.{Bool, true, false, _&&_}
+use mathlib.Core.Bool.{Bool, true, false}
 use mathlib.Core.List.{List, [], _∷_}
 use Prim.Native.Nat.{ℕ, zero, suc, _+_, _-_, _*_, _^_, _≤_, _<_}
 use native.Mathlib.Nat.{pow-suc, pow-zero, mul-assoc, mul-comm, mul-le-mul-right, le-mul-of-pos-right, pow-le-pow-right}
@@ -14,30 +14,27 @@ use lib.Signed.{mag}
 use mir.Syntax.{w64}
 use mir.Val.{SFits, toZ}
 use mir.ValLaws.{toZ-pos}
-use borrow.Author.Tests.{eq-eqb, ne-eqb, le-leb, lt-leb, leb-true}
+use borrow.Author.Tests.{eq-eqb, ne-eqb, leb-true}
 use Rattle.columns.specs.Answer.{pick}
 use Rattle.columns.specs.Bytes.{isDigit, isNone, trim}
 use Rattle.columns.specs.Number.{digits, number, scan, fraction, magnitude, withSign, signedNumber, value, intField, decField}
 use Rattle.columns.proofs.laws.Bytes.{part-cons, part-none, slice-take, slice-drop, trim-short}
 use Rattle.columns.specs.declared.number.Digits.{Digits}
 use Rattle.columns.specs.declared.number.Scan.{Scan}
+use Rattle.columns.proofs.laws.Tests.{both-true}
 use Rattle.columns.specs.declared.number.Digits.the-variants as D
 use Rattle.columns.specs.declared.number.Scan.the-variants as S
 
 -- ---- one more digit
 
 module _ (l : List ℕ) (i to : ℕ) (h : i < to) (k : to ≤ length l) where
-  pub digits-step : (n : ℕ) → 48 ≤ getD l i 0 → getD l i 0 ≤ 57 → digits n (slice i to l) ≡ digits (n * 10 + (getD l i 0 - 48)) (slice (i + 1) to l)
+  pub digits-step : (n : ℕ) → isDigit (getD l i 0) ≡ true → digits n (slice i to l) ≡ digits (n * 10 + (getD l i 0 - 48)) (slice (i + 1) to l)
   unfolding digits
-  digits-step n p q = rw (part-cons l i to h k) (simp (le-leb _ _ p, le-leb _ _ q))
+  digits-step n e = rw (part-cons l i to h k) (rw e)
 
-  pub digits-low : (n : ℕ) → getD l i 0 < 48 → digits n (slice i to l) ≡ D.NoNumber
+  pub digits-other : (n : ℕ) → isDigit (getD l i 0) ≡ false → digits n (slice i to l) ≡ D.NoNumber
   unfolding digits
-  digits-low n p = rw (part-cons l i to h k) (simp (lt-leb _ _ p))
-
-  pub digits-high : (n : ℕ) → 57 < getD l i 0 → digits n (slice i to l) ≡ D.NoNumber
-  unfolding digits
-  digits-high n p = let q : 48 ≤ getD l i 0 = omega arith in rw (part-cons l i to h k) (simp (le-leb _ _ q, lt-leb _ _ p))
+  digits-other n e = rw (part-cons l i to h k) (rw e)
 
 pub digits-none : (l : List ℕ) (i to n : ℕ) → to ≤ i → i ≤ to → digits n (slice i to l) ≡ D.Number n
 unfolding digits
@@ -76,16 +73,12 @@ neg-fits n h = record { sfits = omega (arith, mag-neg n) }
 
 -- ---- what was read is bounded by its number of digits
 
-and-true : (s t : Bool) → s && t ≡ true → t ≡ true
-and-true true t e = e
-and-true false t e = cc
-
-digit-le : (b : ℕ) → isDigit b ≡ true → b ≤ 57
-digit-le b e = leb-true b 57 (and-true (leb 48 b) (leb b 57) e)
+pub digit-bounds : (b : ℕ) → isDigit b ≡ true → (48 ≤ b) × (b ≤ 57)
+digit-bounds b e = let p = both-true (leb 48 b) (leb b 57) e in (leb-true 48 b (p .0), leb-true b 57 (p .1))
 
 module _ (m : ℕ) where
   step-bound : (b n : ℕ) (s : List ℕ) (x : ℕ) (t : Bool) → isDigit b ≡ t → ((n′ : ℕ) → (n′ + 1) * 10 ^ length s ≤ m → digits n′ s ≡ D.Number x → x < m) → (n + 1) * 10 ^ suc (length s) ≤ m → pick t (digits (n * 10 + (b - 48)) s) D.NoNumber ≡ D.Number x → x < m
-  step-bound b n s x true e ih r q = ih (n * 10 + (b - 48)) (room n (b - 48) (length s) m (omega (arith, digit-le b e)) r) q
+  step-bound b n s x true e ih r q = ih (n * 10 + (b - 48)) (room n (b - 48) (length s) m (omega (arith, digit-bounds b e .1)) r) q
   step-bound b n s x false e ih r q = let z : _≡_ {A = ℕ} 0 1 = cc in omega arith
 
   pub digits-bound : (n : ℕ) (s : List ℕ) (x : ℕ) → (n + 1) * 10 ^ length s ≤ m → digits n s ≡ D.Number x → x < m

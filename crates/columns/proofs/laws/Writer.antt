@@ -214,18 +214,21 @@ module _ (cs : List Col) (S : List Slot) (chs from : List ℕ) where
   line-short h = wrote-refused _ from tooShort 0 (rw (lt-ltb _ _ h))
 
   module _ {line line₁ : List ℕ} (h : widths cs ≤ length from) where
-    pub line-refused : (m j : ℕ) → WrotePart (writeColumns cs [] 0 S chs) (writePart cs [] 0 S chs) 0 (O.Refused m j) line line₁ → Wrote (writeLine cs S chs (length from)) (O.Refused m j) from from
+    pub line-refused : (r : Outcome) (m j : ℕ) (to : List ℕ) (n : ℕ) → r ≡ O.Refused m j → WrotePart (writeColumns cs [] 0 S chs) (writePart cs [] 0 S chs) 0 r line line₁ → n ≡ 0 → to ≡ over (take n line₁) from → Wrote (writeLine cs S chs (length from)) r from to
     unfolding writeLine
-    line-refused m j p = wrote-refused _ from m j (rw (le-ltb _ _ h) (refused-of _ m j (p .answer)))
+    line-refused r m j to n e p z q =
+        let f : to ≡ from = q ∙ rw z in
+        rw (e, f) (wrote-refused _ from m j (rw (le-ltb _ _ h) (refused-of (writeColumns cs [] 0 S chs) m j (sym e ∙ p .answer))))
 
-    pub line-done : (to : List ℕ) → T (good cs) → allSlots cs ≤ length S → allTexts cs ≤ length chs → widths cs ≤ length line → WrotePart (writeColumns cs [] 0 S chs) (writePart cs [] 0 S chs) 0 O.Done line line₁ → to ≡ over (take (widths cs) line₁) from → Wrote (writeLine cs S chs (length from)) O.Done from to
+    pub line-done : (r : Outcome) (to : List ℕ) (n : ℕ) → T (good cs) → allSlots cs ≤ length S → allTexts cs ≤ length chs → widths cs ≤ length line → r ≡ O.Done → WrotePart (writeColumns cs [] 0 S chs) (writePart cs [] 0 S chs) 0 r line line₁ → n ≡ widths cs → to ≡ over (take n line₁) from → Wrote (writeLine cs S chs (length from)) r from to
     unfolding writeLine
-    line-done to g a b l p e =
-        let d = done-of (writeColumns cs [] 0 S chs) (p .answer) in
+    line-done r to n g a b l e p z q =
+        let d = done-of (writeColumns cs [] 0 S chs) (sym e ∙ p .answer) in
         let v = columns-size cs [] 0 S chs (d .value) g a b (d .is) in
-        let q : take (widths cs) line₁ ≡ d .value =
-        ap (take (widths cs)) (p .bytes ∙ ap (λ (x : List ℕ). placed 0 x line) (part-wrote cs [] 0 S chs (d .value) (d .is)))
+        let t : take n line₁ ≡ d .value =
+        ap (λ (m : ℕ). take m line₁) z
+        ∙ ap (take (widths cs)) (p .bytes ∙ ap (λ (x : List ℕ). placed 0 x line) (part-wrote cs [] 0 S chs (d .value) (d .is)))
         ∙ placed-take 0 (widths cs) (d .value) line (omega (arith, v)) l in
-        let f : to ≡ over (d .value) from = e ∙ ap (λ (x : List ℕ). over x from) q in
+        let f : to ≡ over (d .value) from = q ∙ ap (λ (x : List ℕ). over x from) t in
         let w : writeLine cs S chs (length from) ≡ ok (d .value) = rw (le-ltb _ _ h) (d .is) in
-        wrote-whole w f
+        rw e (wrote-whole w f)

@@ -1,12 +1,13 @@
--- `columns::read_digits` meets its contract. Assumes nothing.
+use borrow.Author.Needs.{needs}
+use native.Mathlib.Omega.{arith}
 use mathlib.Core.Path.{_≡_, sym, _∙_}
 use Prim.Native.Nat.{_≤_, _-_, _+_, _*_, _^_}
-use native.Mathlib.Omega.{arith}
-use borrow.Author.Needs.{needs}
 use lib.Seq.{slice}
-use Rattle.columns.specs.Number.{digits}
-use Rattle.columns.proofs.laws.Number.{digits-step, digits-low, digits-high, digits-none, room-at, room-le}
+use borrow.Author.Tests.{not-true, not-false}
+use lib.ListN.{getD}
 use Rattle.columns.proofs.number.read_digits.Statement.{statement}
+use Rattle.columns.proofs.laws.Number.{digits-other, digits-step, digits-none, digit-bounds, room-le, room-at}
+use Rattle.columns.specs.Number.{digits}
 use Rattle.columns.proofs.number.read_digits.Tie as tie
 
 abbrev Inv-loop : tie.InvT-loop
@@ -25,26 +26,33 @@ loop-holds c = search needs
 shared-slice-read-b : tie.Need-shared-slice-read-b Inv-loop μ-loop
 shared-slice-read-b c = search needs
 
+is-digit-requires : tie.Need-is-digit-requires Inv-loop μ-loop
+is-digit-requires c κs = search needs
+
 returns : tie.Need-returns Inv-loop μ-loop
 returns c =
-    let l = c .before .before .before in
-    let a = l .before .args in
-    sym (l .loop .inv .3 ∙ digits-low (a .line .now) (l .loop .i) (a .to) (search needs) (search needs) _ (c .if1 .taken))
-
-returns-2 : tie.Need-returns-2 Inv-loop μ-loop
-returns-2 c =
     let l = c .before .before .before .before in
-    let a = l .before .args in
-    sym (l .loop .inv .3 ∙ digits-high (a .line .now) (l .loop .i) (a .to) (search needs) (search needs) _ (c .if2 .taken))
+    let a = c .before .before .before .before .before .before .args in
+    sym (l .loop .inv .3 ∙ digits-other (a .line .now) (l .loop .i) (a .to) (search needs) (search needs) _ (sym (c .before .is-digit .ensures) ∙ not-true _ (c .if1 .taken)))
 
 mul-n : tie.Need-mul-n Inv-loop μ-loop
 mul-n c = omega (arith, room-le _ _ _ (c .before .before .before .before .loop .inv .2))
 
+sub-n : tie.Need-sub-n Inv-loop μ-loop
+sub-n c =
+    let b = getD (c .before .before .before .before .before .before .args .line .now) (c .before .before .before .before .loop .i) 0 in
+    omega (arith, digit-bounds b (sym (c .before .is-digit .ensures) ∙ not-false _ (c .if1 .left)) .0)
+
 cast-n : tie.Need-cast-n Inv-loop μ-loop
-cast-n c = search needs
+cast-n c =
+    let b = getD (c .before .before .before .before .before .before .args .line .now) (c .before .before .before .before .loop .i) 0 in
+    omega (arith, digit-bounds b (sym (c .before .is-digit .ensures) ∙ not-false _ (c .if1 .left)) .1)
 
 add-n : tie.Need-add-n Inv-loop μ-loop
-add-n c = omega (arith, room-le _ _ _ (c .before .before .before .before .loop .inv .2))
+add-n c =
+    let b = getD (c .before .before .before .before .before .before .args .line .now) (c .before .before .before .before .loop .i) 0 in
+    let d = digit-bounds b (sym (c .before .is-digit .ensures) ∙ not-false _ (c .if1 .left)) in
+    omega (arith, room-le _ _ _ (c .before .before .before .before .loop .inv .2), d .0, d .1)
 
 add-i : tie.Need-add-i Inv-loop μ-loop
 add-i c = search needs
@@ -55,13 +63,16 @@ loop-less c = search needs
 loop-again : tie.Need-loop-again Inv-loop μ-loop
 loop-again c =
     let l = c .before .before .before .before in
-    let a = l .before .args in
-    (search needs, search needs, room-at (l .loop .i) (a .to) (l .loop .n) _ _ (search needs) (omega arith) (l .loop .inv .2), l .loop .inv .3 ∙ digits-step (a .line .now) (l .loop .i) (a .to) (search needs) (search needs) _ (c .before .if1 .left) (c .if2 .left))
+    let a = c .before .before .before .before .before .before .args in
+    let b = getD (a .line .now) (l .loop .i) 0 in
+    let e = sym (c .before .is-digit .ensures) ∙ not-false _ (c .if1 .left) in
+    let d = digit-bounds b e in
+    (search needs, search needs, room-at (l .loop .i) (a .to) (l .loop .n) _ _ (search needs) (omega (arith, d .0, d .1)) (l .loop .inv .2), l .loop .inv .3 ∙ digits-step (a .line .now) (l .loop .i) (a .to) (search needs) (search needs) (l .loop .n) e)
 
-returns-3 : tie.Need-returns-3 Inv-loop μ-loop
-returns-3 c =
+returns-2 : tie.Need-returns-2 Inv-loop μ-loop
+returns-2 c =
     let l = c .before in
-    let a = l .before .args in
+    let a = c .before .before .before .args in
     sym (l .loop .inv .3 ∙ digits-none (a .line .now) (l .loop .i) (a .to) _ (search needs) (search needs))
 
 pub read-digits-spec : {M : Type 1} → statement M
@@ -72,12 +83,13 @@ read-digits-spec =
     μ-loop
     loop-holds
     shared-slice-read-b
+    is-digit-requires
     returns
-    returns-2
     mul-n
+    sub-n
     cast-n
     add-n
     add-i
     loop-less
     loop-again
-    returns-3)
+    returns-2)

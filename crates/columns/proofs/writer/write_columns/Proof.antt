@@ -1,7 +1,8 @@
+use mathlib.Core.Logic.{⊎-elim}
 use borrow.Author.Needs.{needs}
 use native.Mathlib.Omega.{arith}
-use mathlib.Core.Path.{_≡_}
-use Prim.Native.Nat.{_-_}
+use Prim.Native.Nat.{_-_, _≤_}
+use lib.ListN.{length, length-take}
 use Rattle.columns.proofs.writer.write_columns.Statement.{statement}
 use Rattle.columns.proofs.laws.Writer.{line-short, line-refused, line-done}
 use Rattle.columns.specs.Table.{columnsOf, slotsOf}
@@ -21,11 +22,11 @@ slice-aggregate-put-columns c = search needs
 put-columns-requires : tie.Need-put-columns-requires
 put-columns-requires c κs = search needs
 
-enum-known-r : tie.Need-enum-known-r
-enum-known-r c = search needs
-
 enum-told : tie.Need-enum-told
 enum-told c = search needs
+
+enum-told-2 : tie.Need-enum-told-2
+enum-told-2 c = search needs
 
 sub-copy : tie.Need-sub-copy
 sub-copy c = search needs
@@ -34,29 +35,34 @@ part-copy-start : tie.Need-part-copy-start
 part-copy-start c = search needs
 
 part-copy-end : tie.Need-part-copy-end
-part-copy-end c = search needs
+part-copy-end c =
+    let p = c .before .before .before .before .before .before .before .before .before .before .before .before .before .pre .1 .1 .1 in
+    ⊎-elim (λ x. omega (arith, x .2)) (λ x. omega (arith, x .2, p .line, c .before .before .before .before .before .before .before .before .before .before .before .before .before .pre .1 .1 .0)) (c .before .before .before .match .came)
 
 copy-requires : tie.Need-copy-requires
-copy-requires c κs = search needs
-
-returns-2 : tie.Need-returns-2
-returns-2 c =
-    let a = c .before .before .before .before .before .before .before .before .before .before .before .before .args in
-    let w = c .before .before .before .before .before .before .before .before .before .before .before .before .pre .1 .1 .0 in
-    line-refused (columnsOf (a .shape .now) (a .ranges .now) (a .letters .now) 0 (a .n)) (slotsOf (a .flags .now) (a .values .now)) (a .text .now) (a .out .now) (omega (arith, c .before .before .before .before .before .before .if1 .left)) _ _ (rw (c .before .r .given .1) at (c .before .before .before .before .put-columns .ensures))
+copy-requires c κs =
+    let a = c .before .before .before .before .before .before .before .before .before .before .before .before .before .before .args in
+    let k = c .before .before .before .before .match .count in
+    let m = length-take (k - 0) (c .before .before .before .before .before .before .put-columns .last .1 .1 .1 .1 .1 .1 .1 .0) in
+    ⊎-elim (λ x. omega (arith, m, x .2)) (λ x. omega (arith, m, x .2, c .before .before .before .before .before .before .before .before .if1 .left)) (c .before .before .before .before .match .came)
 
 same-length : tie.Need-same-length
 same-length c = search needs
 
-returns-3 : tie.Need-returns-3
-returns-3 c =
+returns-2 : tie.Need-returns-2
+returns-2 c =
     let a = c .before .before .before .before .before .before .before .before .before .before .before .before .before .before .before .before .before .args in
     let w = c .before .before .before .before .before .before .before .before .before .before .before .before .before .before .before .before .before .pre .1 .1 .0 in
     let p = c .before .before .before .before .before .before .before .before .before .before .before .before .before .before .before .before .before .pre .1 .1 .1 in
-    let z : a .width - 0 ≡ widths (columnsOf (a .shape .now) (a .ranges .now) (a .letters .now) 0 (a .n)) = omega arith in
     let l = slots-length (a .flags .now) (a .values .now) (p .same) in
-    line-done (columnsOf (a .shape .now) (a .ranges .now) (a .letters .now) 0 (a .n)) (slotsOf (a .flags .now) (a .values .now)) (a .text .now) (a .out .now) (omega (arith, c .before .before .before .before .before .before .before .before .before .before .before .if1 .left)) _ (p .fine) (omega (arith, p .numbers)) (omega (arith, p .chars)) (omega (arith, p .line))
-    (rw (c .before .before .before .before .before .before .enum-told .given .1) at (c .before .before .before .before .before .before .before .before .before .put-columns .ensures)) (rw z at (c .before .before .copy .ensures))
+    let cs = columnsOf (a .shape .now) (a .ranges .now) (a .letters .now) 0 (a .n) in
+    let S = slotsOf (a .flags .now) (a .values .now) in
+    let f : widths cs ≤ length (a .out .now) = omega (arith, c .before .before .before .before .before .before .before .before .before .before .before .if1 .left) in
+    let put = c .before .before .before .before .before .before .before .before .before .put-columns in
+    ⊎-elim
+    (λ x. line-refused cs S (a .text .now) (a .out .now) f (put .result) _ _ _ (c .before .before .before .before .before .before .before .match .count - 0) (x .1 .given .1) (put .ensures) (omega (arith, x .2)) (c .before .before .copy .ensures))
+    (λ x. line-done cs S (a .text .now) (a .out .now) f (put .result) _ (c .before .before .before .before .before .before .before .match .count - 0) (p .fine) (omega (arith, p .numbers)) (omega (arith, p .chars)) (omega (arith, p .line)) (x .1 .given .1) (put .ensures) (omega (arith, x .2)) (c .before .before .copy .ensures))
+    (c .before .before .before .before .before .before .before .match .came)
 
 pub write-columns-spec : {M : Type 1} → statement M
 write-columns-spec =
@@ -65,12 +71,11 @@ write-columns-spec =
     returns
     slice-aggregate-put-columns
     put-columns-requires
-    enum-known-r
     enum-told
+    enum-told-2
     sub-copy
     part-copy-start
     part-copy-end
     copy-requires
-    returns-2
     same-length
-    returns-3)
+    returns-2)
