@@ -21,7 +21,7 @@ use Rattle.columns.specs.Clock.{clockRange, clockRec, clockField, judgeC
 use Rattle.columns.specs.Reading.{nothing, oneNumber, someText, judge, readCell, readColumns, readPart}
 use Rattle.columns.specs.Table.{colOf, columnAt, columnsOf, slotsOf, flagsOf, valuesOf, over, outcomeOf, ReadPart, Table, placed}
 use Rattle.columns.specs.Cell.{cellRec, cellAnswer, Readable, Storable, Stored}
-use Rattle.columns.proofs.laws.Answers.{passed, held, chained}
+use Rattle.columns.proofs.laws.Answers.{passed, held, chained, done-of, refused-of}
 use Rattle.columns.proofs.laws.Places.{placed-length, placed-placed, placed-none}
 use Rattle.columns.proofs.laws.Table.{flags-length, values-length, flags-append, values-append, slots-laid, columns-more, columns-none, table-good, table-fits, table-numbers, table-chars, table-line, table-next}
 use Rattle.columns.proofs.laws.Bytes.{slice-is}
@@ -118,6 +118,30 @@ part-read [] seen at line r e = cc
 part-read (c ∷ cs) seen at line r e =
     let s = chained joined (readCell c seen at (take (width c) line)) (λ z. readColumns cs (seen ++ z .numbers) (at + width c) (drop (width c) line)) r e in
     rw (s .first, part-read cs (seen ++ s .a .numbers) (at + width c) (drop (width c) line) (s .b) (s .second)) (s .is)
+
+-- what a caller of the reader learns: the whole record and where it stands, or the refusal
+pub record Whole (a : Answer Rec) (f f₁ : List ℕ) (v v₁ : List ℤ) (t t₁ : List ℕ) : Type 0 where
+  pub value : Rec
+  pub is : a ≡ ok value
+  pub flags : f₁ ≡ over (flagsOf (value .numbers)) f
+  pub values : v₁ ≡ over (valuesOf (value .numbers)) v
+  pub chars : t₁ ≡ over (value .chars) t
+
+module _ (cs : List Col) (seen : List Slot) (at : ℕ) (line : List ℕ) {f f₁ : List ℕ} {v v₁ : List ℤ} {t t₁ : List ℕ} where
+  pub read-whole : ReadPart (readColumns cs seen at line) (readPart cs seen at line) O.Done f f₁ v v₁ t t₁ → Whole (readColumns cs seen at line) f f₁ v v₁ t t₁
+  read-whole p =
+      let d = done-of (readColumns cs seen at line) (p .answer) in
+      let e = part-read cs seen at line (d .value) (d .is) in
+      record {
+        value = d .value;
+        is = d .is;
+        flags = p .flags ∙ ap (λ (r : Rec). over (flagsOf (r .numbers)) f) e;
+        values = p .values ∙ ap (λ (r : Rec). over (valuesOf (r .numbers)) v) e;
+        chars = p .chars ∙ ap (λ (r : Rec). over (r .chars) t) e;
+      }
+
+  pub read-refused : (m j : ℕ) → ReadPart (readColumns cs seen at line) (readPart cs seen at line) (O.Refused m j) f f₁ v v₁ t t₁ → readColumns cs seen at line ≡ refusal m j
+  read-refused m j p = refused-of (readColumns cs seen at line) m j (p .answer)
 
 -- ---- the turns of the loop
 

@@ -1,0 +1,112 @@
+-- Each answer of a CUBE line, as the code comes to it.
+use mathlib.Core.Path.{_≡_, sym, ap, _∙_}
+use mathlib.Core.Bool.{true, false}
+use mathlib.Core.List.{List, [], _++_}
+use Prim.Native.Nat.{ℕ, _-_, _≤_, _<_}
+use native.Mathlib.Omega.{arith}
+use lib.ListN.{length, take, drop, getD, replicate, length-drop, take-append-drop}
+use lib.IntN.{ℤ, pos}
+use borrow.Author.Tests.{ne-eqb, eq-eqb, le-ltb, lt-ltb}
+use lib.Seq.{drop-drop, take-all}
+use Rattle.formats.specs.declared.cube.LineRead.{LineRead}
+use Rattle.columns.specs.Answer.{Answer, ok, refusal, barredByte}
+use Rattle.columns.specs.Column.{Rec}
+use Rattle.columns.specs.Reading.{readColumns}
+use Rattle.columns.specs.Table.{over}
+use Rattle.formats.specs.Check.{checkCharacter}
+use Rattle.formats.specs.Cube.{eventColumns, delete, differs, asEvent, barredIn, readEvent, readDelete, readLine, lineOf, wrongLength, wrongType, wrongCheck, Message}
+use Rattle.columns.proofs.laws.Reader.{Whole}
+use Rattle.formats.specs.declared.cube.Read.the-variants as R
+
+differs-not : (a b : ℕ) → a ≡ b → differs a b ≡ false
+differs-not a b e = rw (eq-eqb a b e)
+
+differs-is : (a b : ℕ) → (a ≡ b → ⊥) → differs a b ≡ true
+differs-is a b n = rw (ne-eqb a b n)
+
+module _ (l : List ℕ) where
+  -- ---- an E line
+
+  pub event-length : (length l ≡ 80 → ⊥) → readEvent l ≡ refusal wrongLength 0
+  unfolding readEvent
+  event-length n = rw (differs-is (length l) 80 n)
+
+  module _ (n : length l ≡ 80) where
+    pub event-barred : (barredIn (take 79 l) ≡ 0 → ⊥) → readEvent l ≡ refusal barredByte (barredIn (take 79 l))
+    unfolding readEvent
+    event-barred b = rw (differs-not (length l) 80 n, differs-is (barredIn (take 79 l)) 0 b)
+
+    module _ (b : barredIn (take 79 l) ≡ 0) where
+      pub event-check : (getD l 79 0 ≡ checkCharacter (take 79 l) → ⊥) → readEvent l ≡ refusal wrongCheck 80
+      unfolding readEvent
+      event-check c = rw (differs-not (length l) 80 n, differs-not (barredIn (take 79 l)) 0 b, differs-is (getD l 79 0) (checkCharacter (take 79 l)) c)
+
+      pub event-columns : getD l 79 0 ≡ checkCharacter (take 79 l) → readEvent l ≡ asEvent (readColumns eventColumns [] 2 (drop 2 l))
+      unfolding readEvent
+      event-columns c = rw (differs-not (length l) 80 n, differs-not (barredIn (take 79 l)) 0 b, differs-not (getD l 79 0) (checkCharacter (take 79 l)) c)
+
+  -- ---- a DE line
+
+  pub delete-short : length l < 13 → readDelete l ≡ refusal wrongLength 0
+  unfolding readDelete
+  delete-short h = rw (lt-ltb _ _ h)
+
+  module _ (h : 13 ≤ length l) where
+    pub delete-long : 80 < length l → readDelete l ≡ refusal wrongLength 0
+    unfolding readDelete
+    delete-long k = rw (le-ltb _ _ h, lt-ltb _ _ k)
+
+    module _ (k : length l ≤ 80) where
+      pub delete-barred : (barredIn l ≡ 0 → ⊥) → readDelete l ≡ refusal barredByte (barredIn l)
+      unfolding readDelete
+      delete-barred b = rw (le-ltb _ _ h, le-ltb _ _ k, differs-is (barredIn l) 0 b)
+
+      pub delete-read : barredIn l ≡ 0 → readDelete l ≡ ok (delete (take 11 (drop 2 l)) (drop 13 l))
+      unfolding readDelete
+      delete-read b = rw (le-ltb _ _ h, le-ltb _ _ k, differs-not (barredIn l) 0 b)
+
+  -- ---- either kind
+
+  pub line-short : length l < 2 → readLine l ≡ refusal wrongLength 0
+  unfolding readLine
+  line-short h = rw (lt-ltb _ _ h)
+
+  module _ (h : 2 ≤ length l) where
+    pub line-event : getD l 0 0 ≡ 69 → getD l 1 0 ≡ 32 → readLine l ≡ readEvent l
+    unfolding readLine
+    line-event a b = rw (le-ltb _ _ h, a, b)
+
+    pub line-no-event : getD l 0 0 ≡ 69 → (getD l 1 0 ≡ 32 → ⊥) → readLine l ≡ refusal wrongType 1
+    unfolding readLine
+    line-no-event a b = rw (le-ltb _ _ h, a, ne-eqb _ _ b)
+
+    pub line-delete : getD l 0 0 ≡ 68 → getD l 1 0 ≡ 69 → readLine l ≡ readDelete l
+    unfolding readLine
+    line-delete a b = rw (le-ltb _ _ h, a, b)
+
+    pub line-no-delete : getD l 0 0 ≡ 68 → (getD l 1 0 ≡ 69 → ⊥) → readLine l ≡ refusal wrongType 1
+    unfolding readLine
+    line-no-delete a b = rw (le-ltb _ _ h, a, ne-eqb _ _ b)
+
+    pub line-other : (getD l 0 0 ≡ 69 → ⊥) → (getD l 0 0 ≡ 68 → ⊥) → readLine l ≡ refusal wrongType 1
+    unfolding readLine
+    line-other a b = rw (le-ltb _ _ h, ne-eqb (getD l 0 0) 69 a, ne-eqb (getD l 0 0) 68 b)
+
+-- ---- what the code returns
+
+-- a record that was read, in the arrays
+pub event-is : (a : Answer Rec) {f : List ℕ} {v : List ℤ} {t : List ℕ} → Whole a (replicate 19 0) f (replicate 19 (pos 0)) v (replicate 78 0) t → record { read = R.Event; flags = f; values = v; text = t } ≡ lineOf (asEvent a)
+event-is a w = rw (w .is, w .flags, w .values, w .chars)
+
+pub refused-is : (a : Answer Rec) (n k : ℕ) → a ≡ refusal n k → lineOf (refusal n k) ≡ lineOf (asEvent a)
+refused-is a n k e = rw e
+
+pub delete-is : (l : List ℕ) → 13 ≤ length l → record { read = R.Delete (length l - 13); flags = replicate 19 0; values = replicate 19 (pos 0); text = over (take (length l - 2) (drop 2 l)) (replicate 78 0) } ≡ lineOf (ok (delete (take 11 (drop 2 l)) (drop 13 l)))
+delete-is l h =
+    let a : take (length l - 2) (drop 2 l) ≡ drop 2 l = take-all (length l - 2) (drop 2 l) (omega (arith, length-drop 2 l)) in
+    let b : take 11 (drop 2 l) ++ drop 13 l ≡ drop 2 l = ap (λ (x : List ℕ). take 11 (drop 2 l) ++ x) (sym (drop-drop 11 2 l)) ∙ take-append-drop 11 (drop 2 l) in
+    rw (a, b, length-drop 13 l)
+
+-- a refusal by the lowest barred byte that the code found
+pub barred-is : (a : Answer Message) (k b : ℕ) (r : LineRead) → k ≡ b → r ≡ lineOf (refusal barredByte k) → a ≡ refusal barredByte b → r ≡ lineOf a
+barred-is a k b r e p q = p ∙ ap lineOf (ap (refusal barredByte) e ∙ sym q)

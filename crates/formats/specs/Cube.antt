@@ -1,0 +1,136 @@
+-- CUBE lines: E and DE messages, as they are read. Document 01, "The E line", "The DE line".
+use Prim.Native.Nat.{ℕ, _+_, _-_}
+use mathlib.Core.List.{List, [], _∷_, _++_}
+use mathlib.Core.Bool.{Bool, true, false, _&&_}
+use lib.IntN.{ℤ, pos, negsuc}
+use lib.ListN.{length, take, drop, getD, replicate}
+use lib.Dec.{eqb, ltb}
+use Rattle.columns.specs.Answer.{pick, Answer, ok, refusal, barredByte}
+use Rattle.columns.specs.Bytes.{barred}
+use Rattle.columns.specs.Column.{Slot, Rec, Col, integer, text, span, required, optional, noBrackets, anyText}
+use Rattle.columns.specs.Reading.{readColumns}
+use Rattle.columns.specs.Table.{flagsOf, valuesOf, over}
+use Rattle.formats.specs.Check.{checkCharacter}
+use Rattle.formats.specs.declared.cube.Read.{Read}
+use Rattle.formats.specs.declared.cube.Read.the-variants as R
+use Rattle.formats.specs.declared.cube.LineRead.{LineRead}
+
+abbrev pub wrongLength : ℕ
+wrongLength = 1
+
+abbrev pub wrongType : ℕ
+wrongType = 3
+
+abbrev pub wrongCheck : ℕ
+wrongCheck = 9
+
+-- the columns of an E line after its type, 3 to 79
+abbrev pub eventColumns : List Col
+eventColumns =
+    -- 3-10 identifier, 11-12 source, 13 version
+    text 8 optional noBrackets
+    ∷ text 2 optional noBrackets
+    ∷ text 1 optional noBrackets
+    -- 14-17 year, 18-19 month, 20-21 day
+    ∷ integer 4 required (span (negsuc 998) (pos 6070))
+    ∷ integer 2 required (span (pos 1) (pos 12))
+    ∷ integer 2 required (span (pos 1) (pos 31))
+    -- 22-23 hour, 24-25 minute, 26-28 second x 10
+    ∷ integer 2 required (span (pos 0) (pos 23))
+    ∷ integer 2 required (span (pos 0) (pos 59))
+    ∷ integer 3 required (span (pos 0) (pos 599))
+    -- 29-35 latitude x 10000, 36-43 longitude x 10000
+    ∷ integer 7 required (span (negsuc 899999) (pos 900000))
+    ∷ integer 8 required (span (negsuc 1799999) (pos 1800000))
+    -- 44-47 depth, km x 10, 48-49 magnitude x 10: as the column holds
+    ∷ integer 4 optional (span (negsuc 998) (pos 9999))
+    ∷ integer 2 optional (span (negsuc 8) (pos 99))
+    -- 50-52 stations, 53-55 phases, 56-59 nearest station, km x 10: later numbers are not negative
+    ∷ integer 3 optional (span (pos 0) (pos 999))
+    ∷ integer 3 optional (span (pos 0) (pos 999))
+    ∷ integer 4 optional (span (pos 0) (pos 9999))
+    -- 60-63 rms, s x 100, 64-67 horizontal error, 68-71 vertical error, km x 10
+    ∷ integer 4 optional (span (pos 0) (pos 9999))
+    ∷ integer 4 optional (span (pos 0) (pos 9999))
+    ∷ integer 4 optional (span (pos 0) (pos 9999))
+    -- 72-73 gap, percent, 74 magnitude letter
+    ∷ integer 2 optional (span (pos 0) (pos 99))
+    ∷ text 1 optional anyText
+    -- 75-76 magnitude stations, 77-78 magnitude error x 10, 79 method
+    ∷ integer 2 optional (span (pos 0) (pos 99))
+    ∷ integer 2 optional (span (pos 0) (pos 99))
+    ∷ text 1 optional anyText
+    ∷ []
+
+-- a message: an event's 19 numbers and its 13 text bytes (identifier, source, version, magnitude letter, method), or a
+-- delete's identifier, source and version, 11 bytes, and its free text
+pub data Message : Type 0 where
+  event : List Slot → List ℕ → Message
+  delete : List ℕ → List ℕ → Message
+
+-- ---- read: under 2 bytes 1; type 3; length 1; lowest barred byte 2; check 9; fields left to right
+
+-- the answer, where the test finds nothing to refuse
+abbrev pub unless : {A : Type 0} → Bool → ℕ → ℕ → Answer A → Answer A
+unless t n k o = pick t (refusal n k) o
+
+abbrev pub differs : ℕ → ℕ → Bool
+differs a b = pick (eqb a b) false true
+
+abbrev pub asEvent : Answer Rec → Answer Message
+asEvent (ok r) = ok (event (r .numbers) (r .chars))
+asEvent (refusal n k) = refusal n k
+
+-- the lowest barred byte, brackets barred in columns 3 to 13
+abbrev pub barredIn : List ℕ → ℕ
+barredIn l = barred 3 13 1 l
+
+-- an E line: 80 bytes, the check character in column 80 over the 79 before it
+unfoldable pub readEvent : List ℕ → Answer Message
+readEvent l =
+    unless (differs (length l) 80) wrongLength 0
+    (unless (differs (barredIn (take 79 l)) 0) barredByte (barredIn (take 79 l))
+    (unless (differs (getD l 79 0) (checkCharacter (take 79 l))) wrongCheck 80
+    (asEvent (readColumns eventColumns [] 2 (drop 2 l)))))
+
+-- a DE line: 13 to 80 bytes, free text from column 14 on
+unfoldable pub readDelete : List ℕ → Answer Message
+readDelete l =
+    unless (ltb (length l) 13) wrongLength 0
+    (unless (ltb 80 (length l)) wrongLength 0
+    (unless (differs (barredIn l) 0) barredByte (barredIn l)
+    (ok (delete (take 11 (drop 2 l)) (drop 13 l)))))
+
+abbrev pub isType : ℕ → ℕ → List ℕ → Bool
+isType a b l = eqb (getD l 0 0) a && eqb (getD l 1 0) b
+
+-- `E ` is an event, `DE` a delete, any other type 3
+unfoldable pub readLine : List ℕ → Answer Message
+readLine l =
+    unless (ltb (length l) 2) wrongLength 0
+    (pick (isType 69 32 l) (readEvent l) (pick (isType 68 69 l) (readDelete l) (refusal wrongType 1)))
+
+-- ---- what the code returns for an answer: the arrays are zero but for the record
+
+abbrev pub lineOf : Answer Message → LineRead
+lineOf (ok (event ns t)) =
+    record {
+      read = R.Event;
+      flags = over (flagsOf ns) (replicate 19 0);
+      values = over (valuesOf ns) (replicate 19 (pos 0));
+      text = over t (replicate 78 0);
+    }
+lineOf (ok (delete names t)) =
+    record {
+      read = R.Delete (length t);
+      flags = replicate 19 0;
+      values = replicate 19 (pos 0);
+      text = over (names ++ t) (replicate 78 0);
+    }
+lineOf (refusal n k) =
+    record {
+      read = R.Refused n k;
+      flags = replicate 19 0;
+      values = replicate 19 (pos 0);
+      text = replicate 78 0;
+    }

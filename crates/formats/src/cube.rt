@@ -1,0 +1,298 @@
+// CUBE lines: E and DE messages, read.
+use super::check::check_character;
+use columns::Outcome;
+use columns::bytes::copy;
+use columns::bytes::first_barred;
+use columns::reader::read_columns;
+ghost use mathlib.Core.Path.{_≡_};
+ghost use lib.ListN.{length};
+ghost use lib.ListN.{drop};
+ghost use mathlib.Core.List.{[]};
+ghost use Rattle.columns.specs.Answer.{refusal};
+ghost use Rattle.columns.specs.Reading.{readColumns};
+ghost use Rattle.formats.specs.Cube.{eventColumns, asEvent, readEvent, readDelete, readLine, lineOf};
+
+// The table of specs/Cube.antt: kind, width, a, b of each column from column 3 on.
+const EVENT_SHAPE: [u16; 96] = [
+    2,
+    8,
+    1,
+    0,
+    2,
+    2,
+    1,
+    0,
+    2,
+    1,
+    1,
+    0,
+    0,
+    4,
+    0,
+    1,
+    0,
+    2,
+    0,
+    1,
+    0,
+    2,
+    0,
+    1,
+    0,
+    2,
+    0,
+    1,
+    0,
+    2,
+    0,
+    1,
+    0,
+    3,
+    0,
+    1,
+    0,
+    7,
+    0,
+    1,
+    0,
+    8,
+    0,
+    1,
+    0,
+    4,
+    0,
+    0,
+    0,
+    2,
+    0,
+    0,
+    0,
+    3,
+    0,
+    0,
+    0,
+    3,
+    0,
+    0,
+    0,
+    4,
+    0,
+    0,
+    0,
+    4,
+    0,
+    0,
+    0,
+    4,
+    0,
+    0,
+    0,
+    4,
+    0,
+    0,
+    0,
+    2,
+    0,
+    0,
+    2,
+    1,
+    0,
+    0,
+    0,
+    2,
+    0,
+    0,
+    0,
+    2,
+    0,
+    0,
+    2,
+    1,
+    0,
+    0,
+];
+
+// The ends of each column's range.
+const EVENT_RANGES: [i64; 48] = [
+    0,
+    0,
+    0,
+    0,
+    0,
+    0,
+    -999,
+    6070,
+    1,
+    12,
+    1,
+    31,
+    0,
+    23,
+    0,
+    59,
+    0,
+    599,
+    -900000,
+    900000,
+    -1800000,
+    1800000,
+    -999,
+    9999,
+    -9,
+    99,
+    0,
+    999,
+    0,
+    999,
+    0,
+    9999,
+    0,
+    9999,
+    0,
+    9999,
+    0,
+    9999,
+    0,
+    99,
+    0,
+    0,
+    0,
+    99,
+    0,
+    99,
+    0,
+    0,
+];
+
+// An E line has no letters of a set.
+const EVENT_LETTERS: [u8; 1] = [0];
+
+const EVENT_COLUMNS: usize = 24;
+
+// What was read: an event, a delete with the length of its free text, or the number of a refusal and its column.
+pub enum Read {
+    Event,
+    Delete(usize),
+    Refused(u8, usize),
+}
+
+// The outcome of reading a line, with the record: an event's numbers with their flags, and its text (identifier 8,
+// source 2, version 1, magnitude letter, method); or a delete's text (identifier, source, version, free text).
+pub struct LineRead {
+    pub read: Read,
+    pub flags: [u8; 19],
+    pub values: [i64; 19],
+    pub text: [u8; 78],
+}
+
+fn refused(number: u8, column: usize) -> LineRead
+    ensures { λ r. ⌜ r ≡ lineOf (refusal number column) ⌝ }
+{
+    let flags = [0u8; 19];
+    let values = [0i64; 19];
+    let text = [0u8; 78];
+    LineRead {
+        read: Read::Refused(number, column),
+        flags,
+        values,
+        text,
+    }
+}
+
+// The columns of an E line.
+fn read_event_columns(line: &[u8]) -> LineRead
+    requires { ⌜ length (now line) ≡ 80 ⌝ }
+    ensures { λ r. ⌜ r ≡ lineOf (asEvent (readColumns eventColumns [] 2 (drop 2 (now (line .entry))))) ⌝ }
+{
+    let mut flags = [0u8; 19];
+    let mut values = [0i64; 19];
+    let mut text = [0u8; 78];
+    let outcome = read_columns(
+        line,
+        2,
+        &EVENT_SHAPE,
+        &EVENT_RANGES,
+        &EVENT_LETTERS,
+        EVENT_COLUMNS,
+        &mut flags,
+        &mut values,
+        &mut text,
+    );
+    match outcome {
+        Outcome::Refused(number, column) => refused(number, column),
+        Outcome::Done => LineRead {
+            read: Read::Event,
+            flags,
+            values,
+            text,
+        },
+    }
+}
+
+// A line whose type is `E `.
+fn read_event(line: &[u8]) -> LineRead
+    ensures { λ r. ⌜ r ≡ lineOf (readEvent (now (line .entry))) ⌝ }
+{
+    if line.len() != 80 {
+        return refused(super::LENGTH, 0);
+    }
+    let barred = first_barred(&line[0..79], 1, 3, 13);
+    if barred != 0 {
+        return refused(columns::BARRED, barred);
+    }
+    if line[79] != check_character(&line[0..79]) {
+        return refused(super::CHECK, 80);
+    }
+    read_event_columns(line)
+}
+
+// A line whose type is `DE`.
+fn read_delete(line: &[u8]) -> LineRead
+    ensures { λ r. ⌜ r ≡ lineOf (readDelete (now (line .entry))) ⌝ }
+{
+    let len = line.len();
+    if len < 13 {
+        return refused(super::LENGTH, 0);
+    }
+    if 80 < len {
+        return refused(super::LENGTH, 0);
+    }
+    let barred = first_barred(line, 1, 3, 13);
+    if barred != 0 {
+        return refused(columns::BARRED, barred);
+    }
+    let flags = [0u8; 19];
+    let values = [0i64; 19];
+    let mut text = [0u8; 78];
+    copy(&mut text, &line[2..len]);
+    LineRead {
+        read: Read::Delete(len - 13),
+        flags,
+        values,
+        text,
+    }
+}
+
+// A CUBE line of either kind.
+pub fn read_line(line: &[u8]) -> LineRead
+    ensures { λ r. ⌜ r ≡ lineOf (readLine (now (line .entry))) ⌝ }
+{
+    if line.len() < 2 {
+        return refused(super::LENGTH, 0);
+    }
+    let a = line[0];
+    let b = line[1];
+    if a == 69 {
+        if b == 32 {
+            return read_event(line);
+        }
+        return refused(super::TYPE, 1);
+    }
+    if a == 68 {
+        if b == 69 {
+            return read_delete(line);
+        }
+        return refused(super::TYPE, 1);
+    }
+    refused(super::TYPE, 1)
+}
