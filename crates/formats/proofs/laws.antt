@@ -1,2 +1,3 @@
 pub mod Check
 pub mod Cube
+pub mod CubeWriting

@@ -1,14 +1,15 @@
--- CUBE lines: E and DE messages, as they are read. Document 01, "The E line", "The DE line".
+-- CUBE lines: E and DE messages, as they are read and written. Document 01, "The E line", "The DE line".
 use Prim.Native.Nat.{ℕ, _+_, _-_}
 use mathlib.Core.List.{List, [], _∷_, _++_}
 use mathlib.Core.Bool.{Bool, true, false, _&&_}
 use lib.IntN.{ℤ, pos, negsuc}
 use lib.ListN.{length, take, drop, getD, replicate}
 use lib.Dec.{eqb, ltb}
-use Rattle.columns.specs.Answer.{pick, Answer, ok, refusal, barredByte}
+use Rattle.columns.specs.Answer.{pick, Answer, ok, refusal, barredByte, tooShort}
 use Rattle.columns.specs.Bytes.{barred}
 use Rattle.columns.specs.Column.{Slot, Rec, Col, integer, text, span, required, optional, noBrackets, anyText}
 use Rattle.columns.specs.Reading.{readColumns}
+use Rattle.columns.specs.Writing.{writeColumns}
 use Rattle.columns.specs.Table.{flagsOf, valuesOf, over}
 use Rattle.formats.specs.Check.{checkCharacter}
 use Rattle.formats.specs.declared.cube.Read.{Read}
@@ -134,3 +135,23 @@ lineOf (refusal n k) =
       values = replicate 19 (pos 0);
       text = replicate 78 0;
     }
+
+-- ---- written: 1 for a DE text over 67 bytes; 11; fields left to right
+
+-- the type before the columns of an E line, and the check character after them
+abbrev pub sealed : List ℕ → List ℕ
+sealed ys = (69 ∷ 32 ∷ ys) ++ checkCharacter (69 ∷ 32 ∷ ys) ∷ []
+
+abbrev pub sealedAnswer : Answer (List ℕ) → Answer (List ℕ)
+sealedAnswer (ok ys) = ok (sealed ys)
+sealedAnswer (refusal n k) = refusal n k
+
+-- the fields of a DE line are text, each refused by its lowest barred byte alone
+unfoldable pub writeMessage : Message → ℕ → Answer (List ℕ)
+writeMessage (event ns t) room =
+    unless (ltb room 80) tooShort 0 (sealedAnswer (writeColumns eventColumns [] 2 ns t))
+writeMessage (delete names t) room =
+    unless (ltb 67 (length t)) wrongLength 0
+    (unless (ltb room (13 + length t)) tooShort 0
+    (unless (differs (barred 3 13 3 (names ++ t)) 0) barredByte (barred 3 13 3 (names ++ t))
+    (ok (68 ∷ 69 ∷ (names ++ t)))))

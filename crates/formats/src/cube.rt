@@ -1,16 +1,18 @@
-// CUBE lines: E and DE messages, read.
+// CUBE lines: E and DE messages, read and written.
 use super::check::check_character;
 use columns::Outcome;
 use columns::bytes::copy;
 use columns::bytes::first_barred;
 use columns::reader::read_columns;
+use columns::writer::put_columns;
 ghost use mathlib.Core.Path.{_≡_};
-ghost use lib.ListN.{length};
-ghost use lib.ListN.{drop};
+ghost use Prim.Native.Nat.{_+_, _≤_};
+ghost use lib.ListN.{length, take, drop};
 ghost use mathlib.Core.List.{[]};
 ghost use Rattle.columns.specs.Answer.{refusal};
 ghost use Rattle.columns.specs.Reading.{readColumns};
-ghost use Rattle.formats.specs.Cube.{eventColumns, asEvent, readEvent, readDelete, readLine, lineOf};
+ghost use Rattle.columns.specs.Table.{slotsOf, Wrote};
+ghost use Rattle.formats.specs.Cube.{eventColumns, asEvent, readEvent, readDelete, readLine, lineOf, event, delete, writeMessage};
 
 // The table of specs/Cube.antt: kind, width, a, b of each column from column 3 on.
 const EVENT_SHAPE: [u16; 96] = [
@@ -295,4 +297,58 @@ pub fn read_line(line: &[u8]) -> LineRead
         return refused(super::TYPE, 1);
     }
     refused(super::TYPE, 1)
+}
+
+// An event's record, its 19 numbers and 13 text bytes, as a line of 80 bytes over the first of `out`. Nothing is changed
+// where it is refused.
+pub fn write_event(flags: &[u8; 19], values: &[i64; 19], text: &[u8; 13], out: &mut [u8]) -> Outcome
+    ensures { λ r. ⌜ Wrote (writeMessage (event (slotsOf (now (flags .entry)) (now (values .entry))) (now (text .entry))) (length (now (out .entry)))) r (now (out .entry)) (now (out .exit)) ⌝ }
+{
+    if out.len() < 80 {
+        return Outcome::Refused(columns::SHORT, 0);
+    }
+    let mut line = [32u8; 80];
+    line[0] = 69;
+    let r = put_columns(
+        flags,
+        values,
+        text,
+        &EVENT_SHAPE,
+        &EVENT_RANGES,
+        &EVENT_LETTERS,
+        EVENT_COLUMNS,
+        &mut line,
+        2,
+    );
+    line[79] = check_character(&line[0..79]);
+    let mut count = 80;
+    if let Outcome::Refused(_, _) = r {
+        count = 0;
+    }
+    copy(out, &line[0..count]);
+    r
+}
+
+// A delete's record, identifier, source and version and after them its free text, as a line over the first bytes of `out`.
+// Nothing is changed where it is refused.
+pub fn write_delete(text: &[u8], out: &mut [u8]) -> Outcome
+    requires { ⌜ 11 ≤ length (now text) ⌝ }
+    ensures { λ r. ⌜ Wrote (writeMessage (delete (take 11 (now (text .entry))) (drop 11 (now (text .entry)))) (length (now (out .entry)))) r (now (out .entry)) (now (out .exit)) ⌝ }
+{
+    let len = text.len();
+    if 78 < len {
+        return Outcome::Refused(super::LENGTH, 0);
+    }
+    let end = len + 2;
+    if out.len() < end {
+        return Outcome::Refused(columns::SHORT, 0);
+    }
+    let barred = first_barred(text, 3, 3, 13);
+    if barred != 0 {
+        return Outcome::Refused(columns::BARRED, barred);
+    }
+    out[0] = 68;
+    out[1] = 69;
+    copy(&mut out[2..end], text);
+    Outcome::Done
 }

@@ -18,7 +18,7 @@ module _ {A : Type 0} where
   head-length k xs l h = length-append (take k l) xs ∙ rw (length-take-le k l (omega arith))
 
   -- what comes before, and what comes after
-  placed-split : (k n : ℕ) (xs l : List A) → n ≡ k + length xs → placed k xs l ≡ (take k l ++ xs) ++ drop n l
+  pub placed-split : (k n : ℕ) (xs l : List A) → n ≡ k + length xs → placed k xs l ≡ (take k l ++ xs) ++ drop n l
   placed-split k n xs l e = rw (drop-drop (length xs) k l, ← e) (sym (append-assoc (take k l) xs (drop n l)))
 
   pub placed-length : (k : ℕ) (xs l : List A) → k + length xs ≤ length l → length (placed k xs l) ≡ length l
