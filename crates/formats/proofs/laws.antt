@@ -1,3 +1,4 @@
 pub mod Check
 pub mod Cube
 pub mod CubeWriting
+pub mod CubeBack

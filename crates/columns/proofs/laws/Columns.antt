@@ -1,5 +1,5 @@
 -- Every record that is written by a list of columns reads back: by column, then over the list.
-use mathlib.Core.Path.{_≡_, refl, _∙_, subst}
+use mathlib.Core.Path.{_≡_, refl, _∙_, subst, ap}
 use mathlib.Core.Bool.{Bool, true, false, _&&_}
 use mathlib.Core.List.{List, [], _∷_, _++_}
 use Prim.Native.Nat.{ℕ, _+_, _≤_}
@@ -8,12 +8,12 @@ use lib.ListN.{length, take, drop, getD, replicate, length-append, length-drop, 
 use lib.Dec.{leb, eqb, T, leb→le}
 use lib.IntN.{ℤ}
 use borrow.Author.Tests.{eqb-true}
-use lib.Seq.{take-at, drop-at, length-take-le}
+use lib.Seq.{take-append-le, drop-append-le, take-at, drop-at, length-take-le}
 use Rattle.columns.specs.declared.number.Field.{Field}
-use Rattle.columns.specs.Answer.{pick, ok, refusal, barredByte, requiredBlank, outOfRange, wrongLetter, tooWide}
+use Rattle.columns.specs.Answer.{pick, ok, refusal, barredByte, requiredBlank, outOfRange, wrongLetter, tooWide, chain, both, Answer}
 use Rattle.columns.specs.Bytes.{trim, member}
 use Rattle.columns.specs.Number.{intField, decField, holdsInt, holdsDec, intBytes, decBytes}
-use Rattle.columns.specs.Column.{Slot, missing, given, Range, allowed, Col, integer, decimal, text, letter, clock, separator, width, slots, texts, goodCol, good, widths, allSlots, allTexts, barsOf}
+use Rattle.columns.specs.Column.{Slot, missing, given, Range, allowed, Col, integer, decimal, text, letter, clock, separator, width, slots, texts, goodCol, good, widths, allSlots, allTexts, barsOf, joined}
 use Rattle.columns.specs.Reading.{oneNumber, judge, readCell, readColumns}
 use Rattle.columns.specs.Writing.{putNumber, barredIn, putText, writeCell, writeColumns}
 use Rattle.columns.proofs.laws.Clear.{Clear, clear-blanks, clear-int, clear-dec, barred-clear}
@@ -177,3 +177,19 @@ columns-size (c ∷ cs) seen at ns t ys g a b e =
     let x = cell-written c seen at (take (slots c) ns) (take (texts c) t) (s .a) (gs .0) (length-take-le (slots c) ns (omega arith)) (length-take-le (texts c) t (omega arith)) (s .first) in
     let y = columns-size cs (seen ++ take (slots c) ns) (at + width c) (drop (slots c) ns) (drop (texts c) t) (s .b) (gs .1) (omega (arith, length-drop (slots c) ns)) (omega (arith, length-drop (texts c) t)) (s .second) in
     rw (← s .is) (length-append (s .a) (s .b) ∙ omega (arith, x .size))
+
+-- ---- bytes after the last column are not looked at
+
+chain-same : {A : Type 0} (f : A → A → A) (x : Answer A) (o p : A → Answer A) → ((a : A) → o a ≡ p a) → chain f x o ≡ chain f x p
+chain-same f (ok a) o p h = ap (both f (ok a)) (h a)
+chain-same f (refusal n k) o p h = refl
+
+pub columns-more-bytes : (cs : List Col) (seen : List Slot) (at : ℕ) (ys zs : List ℕ) → widths cs ≤ length ys → readColumns cs seen at (ys ++ zs) ≡ readColumns cs seen at ys
+unfolding readColumns widths
+columns-more-bytes [] seen at ys zs h = refl
+columns-more-bytes (c ∷ cs) seen at ys zs h =
+    let t : take (width c) (ys ++ zs) ≡ take (width c) ys = take-append-le (width c) ys zs (omega arith) in
+    let d : drop (width c) (ys ++ zs) ≡ drop (width c) ys ++ zs = drop-append-le (width c) ys zs (omega arith) in
+    rw (t, d)
+    (chain-same joined (readCell c seen at (take (width c) ys)) (λ r. readColumns cs (seen ++ r .numbers) (at + width c) (drop (width c) ys ++ zs)) (λ r. readColumns cs (seen ++ r .numbers) (at + width c) (drop (width c) ys))
+    (λ r. columns-more-bytes cs (seen ++ r .numbers) (at + width c) (drop (width c) ys) zs (omega (arith, length-drop (width c) ys))))

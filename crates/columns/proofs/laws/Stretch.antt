@@ -25,7 +25,7 @@ module _ (from to : ℕ) where
       rw z (f e)
   split-case false k a b h f e = let y : ⊥ = omega arith in absurd y
 
-  barred-split : (k : ℕ) (a b : List ℕ) → 0 < k → barred from to k (a ++ b) ≡ 0 → (barred from to k a ≡ 0) × (barred from to (k + length a) b ≡ 0)
+  pub barred-split : (k : ℕ) (a b : List ℕ) → 0 < k → barred from to k (a ++ b) ≡ 0 → (barred from to k a ≡ 0) × (barred from to (k + length a) b ≡ 0)
   unfolding barred
   barred-split k [] b h e = let z : k + 0 ≡ k = omega arith in (refl, rw z e)
   barred-split k (x ∷ a) b h e = split-case (isAllowed (inside from to k) x) k a b h (barred-split (k + 1) a b (omega arith)) e

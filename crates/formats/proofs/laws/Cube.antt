@@ -18,10 +18,10 @@ use Rattle.formats.specs.Cube.{eventColumns, delete, differs, asEvent, b
 use Rattle.columns.proofs.laws.Reader.{Whole}
 use Rattle.formats.specs.declared.cube.Read.the-variants as R
 
-differs-not : (a b : ℕ) → a ≡ b → differs a b ≡ false
+pub differs-not : (a b : ℕ) → a ≡ b → differs a b ≡ false
 differs-not a b e = rw (eq-eqb a b e)
 
-differs-is : (a b : ℕ) → (a ≡ b → ⊥) → differs a b ≡ true
+pub differs-is : (a b : ℕ) → (a ≡ b → ⊥) → differs a b ≡ true
 differs-is a b n = rw (ne-eqb a b n)
 
 module _ (l : List ℕ) where

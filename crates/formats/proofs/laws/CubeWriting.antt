@@ -1,11 +1,10 @@
 -- Each answer of a CUBE record that is written, as the code comes to it, and the bytes of its line.
 use mathlib.Core.Path.{_≡_, refl, sym, ap, _∙_}
-use mathlib.Core.Bool.{true, false}
 use mathlib.Core.List.{List, [], _∷_, _++_}
 use Prim.Native.Nat.{ℕ, _+_, _-_, _≤_, _<_}
 use native.Mathlib.Omega.{arith}
 use lib.ListN.{length, take, drop, set, replicate, length-append, length-drop, take-append-drop, length-set}
-use borrow.Author.Tests.{ne-eqb, eq-eqb, le-ltb, lt-ltb}
+use borrow.Author.Tests.{le-ltb, lt-ltb}
 use lib.Seq.{take-at, take-all, set-at}
 use borrow.Rule.Slice.PartMut.{midOf, putMid}
 use Rattle.columns.specs.declared.Outcome.{Outcome}
@@ -15,18 +14,13 @@ use Rattle.columns.specs.Column.{Slot, good, widths, allSlots, allTexts}
 use Rattle.columns.specs.Writing.{writeColumns, writePart}
 use Rattle.columns.specs.Table.{over, placed, Wrote, WrotePart}
 use Rattle.formats.specs.Check.{checkCharacter}
-use Rattle.formats.specs.Cube.{eventColumns, event, delete, differs, sealed, writeMessage, wrongLength}
+use Rattle.formats.specs.Cube.{eventColumns, event, delete, sealed, writeMessage, wrongLength}
 use Rattle.columns.proofs.laws.Places.{set-placed, placed-placed, placed-split, chars-placed}
 use Rattle.columns.proofs.laws.Answers.{wrote-refused, wrote-whole, refused-of, done-of}
 use Rattle.columns.proofs.laws.Columns.{columns-size}
 use Rattle.columns.proofs.laws.Writer.{part-wrote}
+use Rattle.formats.proofs.laws.Cube.{differs-not, differs-is}
 use Rattle.columns.specs.declared.Outcome.the-variants as O
-
-differs-not : (a b : ℕ) → a ≡ b → differs a b ≡ false
-differs-not a b e = rw (eq-eqb a b e)
-
-differs-is : (a b : ℕ) → (a ≡ b → ⊥) → differs a b ≡ true
-differs-is a b n = rw (ne-eqb a b n)
 
 -- ---- a delete, whose names and free text are one list
 

@@ -1,0 +1,161 @@
+-- Every CUBE record that is written reads back the same, and every record that was read is written.
+use mathlib.Core.Path.{_≡_, refl, sym, ap, _∙_, subst}
+use mathlib.Core.Bool.{Bool, true, false}
+use mathlib.Core.List.{List, [], _∷_, _++_}
+use Prim.Native.Nat.{ℕ, _+_, _≤_, _-_}
+use native.Mathlib.Omega.{arith}
+use lib.ListN.{length, take, getD, length-append, drop, length-drop, take-append-drop}
+use lib.Dec.{ltb, eqb}
+use borrow.Author.Tests.{ltb-false, eqb-true}
+use lib.Seq.{take-at, drop-at, getD-at, length-take-le, drop-drop, take-add, take-take}
+use Rattle.columns.specs.Answer.{pick, Answer, ok, refusal, barredByte, tooShort}
+use Rattle.columns.specs.Bytes.{barred}
+use Rattle.columns.specs.Column.{Slot, good, widths, allSlots, allTexts, bracketsIn, Rec}
+use Rattle.columns.specs.Writing.{writeColumns}
+use Rattle.formats.specs.Check.{checkCharacter}
+use Rattle.formats.specs.Cube.{eventColumns, event, delete, unless, differs, sealed, sealedAnswer, barredIn, readLine, asEvent, writeMessage, wrongLength, Message, readEvent, readDelete, isType, wrongType, wrongCheck}
+use Rattle.columns.proofs.laws.Columns.{Line, columns-back, columns-more-bytes}
+use Rattle.columns.proofs.laws.Stretch.{clean-line, barred-split, line-clean}
+use Rattle.columns.proofs.laws.Answers.{passed}
+use Rattle.formats.proofs.laws.Cube.{line-event, event-columns, line-delete, delete-read}
+use Rattle.columns.specs.Reading.{readColumns}
+use Rattle.columns.proofs.laws.Accepted.{columns-accepted}
+use Rattle.formats.proofs.laws.CubeWriting.{put-event, put-delete}
+
+-- ---- what an accepted record says
+
+differs-same : (a b : ℕ) → differs a b ≡ false → a ≡ b
+differs-same a b e = by-test (eqb a b) refl e
+  where
+    by-test : (t : Bool) → eqb a b ≡ t → pick t false true ≡ false → a ≡ b
+    by-test true p q = eqb-true a b p
+    by-test false p q = let z : _≡_ {A = ℕ} 0 1 = cc in let y : ⊥ = omega arith in absurd y
+
+record Sealed (a : Answer (List ℕ)) (ys : List ℕ) : Type 0 where
+  columns : List ℕ
+  wrote : a ≡ ok columns
+  is : sealed columns ≡ ys
+
+sealed-of : (a : Answer (List ℕ)) (ys : List ℕ) → sealedAnswer a ≡ ok ys → Sealed a ys
+sealed-of (ok zs) ys e = record { columns = zs; wrote = refl; is = cc }
+sealed-of (refusal n k) ys e = let z : _≡_ {A = ℕ} 0 1 = cc in let y : ⊥ = omega arith in absurd y
+
+-- ---- an event
+
+module _ (ns : List Slot) (t zs : List ℕ) (a : length ns ≡ 19) (b : length t ≡ 13) (e : writeColumns eventColumns [] 2 ns t ≡ ok zs) where
+  event-line : Line eventColumns [] 2 ns t zs
+  unfolding good allSlots allTexts
+  event-line = columns-back eventColumns [] 2 ns t zs tt a b e
+
+  event-width : length zs ≡ 77
+  unfolding widths
+  event-width = event-line .size
+
+  head-length : length (69 ∷ 32 ∷ zs) ≡ 79
+  head-length = omega (arith, event-width)
+
+  head-is : take 79 (sealed zs) ≡ 69 ∷ 32 ∷ zs
+  head-is = take-at (69 ∷ 32 ∷ zs) (checkCharacter (69 ∷ 32 ∷ zs) ∷ []) 79 head-length
+
+  event-clear : barredIn (take 79 (sealed zs)) ≡ 0
+  unfolding barred widths bracketsIn
+  event-clear = ap (barred 3 13 1) head-is ∙ clean-line 3 13 eventColumns 2 zs tt (event-line .size) (event-line .clean)
+
+  event-sealed : readLine (sealed zs) ≡ ok (event ns t)
+  unfolding widths
+  event-sealed =
+      let n : length (sealed zs) ≡ 80 = omega (arith, head-length, length-append (69 ∷ 32 ∷ zs) (checkCharacter (69 ∷ 32 ∷ zs) ∷ [])) in
+      let c : getD (sealed zs) 79 0 ≡ checkCharacter (take 79 (sealed zs)) =
+      getD-at (69 ∷ 32 ∷ zs) (checkCharacter (69 ∷ 32 ∷ zs)) [] 0 79 head-length ∙ ap checkCharacter (sym head-is) in
+      line-event (sealed zs) (omega arith) refl refl
+      ∙ event-columns (sealed zs) n event-clear c
+      ∙ ap asEvent (columns-more-bytes eventColumns [] 2 zs (checkCharacter (69 ∷ 32 ∷ zs) ∷ []) (omega (arith, event-width)) ∙ event-line .back)
+
+pub event-back : (ns : List Slot) (t ys : List ℕ) (room : ℕ) → length ns ≡ 19 → length t ≡ 13 → writeMessage (event ns t) room ≡ ok ys → readLine ys ≡ ok (event ns t)
+unfolding writeMessage
+event-back ns t ys room a b e =
+    let p = passed (ltb room 80) tooShort 0 (sealedAnswer (writeColumns eventColumns [] 2 ns t)) ys e in
+    let s = sealed-of (writeColumns eventColumns [] 2 ns t) ys (p .1) in
+    ap readLine (sym (s .is)) ∙ event-sealed ns t (s .columns) a b (s .wrote)
+
+-- ---- a delete
+
+pub delete-back : (names t ys : List ℕ) (room : ℕ) → length names ≡ 11 → writeMessage (delete names t) room ≡ ok ys → readLine ys ≡ ok (delete names t)
+unfolding writeMessage barred
+delete-back names t ys room n e =
+    let l : List ℕ = 68 ∷ 69 ∷ (names ++ t) in
+    let p = passed (ltb 67 (length t)) wrongLength 0 (unless (ltb room (13 + length t)) tooShort 0 (unless (differs (barred 3 13 3 (names ++ t)) 0) barredByte (barred 3 13 3 (names ++ t)) (ok (68 ∷ 69 ∷ (names ++ t))))) ys e in
+    let q = passed (ltb room (13 + length t)) tooShort 0 (unless (differs (barred 3 13 3 (names ++ t)) 0) barredByte (barred 3 13 3 (names ++ t)) (ok (68 ∷ 69 ∷ (names ++ t)))) ys (p .1) in
+    let r = passed (differs (barred 3 13 3 (names ++ t)) 0) barredByte (barred 3 13 3 (names ++ t)) (ok (68 ∷ 69 ∷ (names ++ t))) ys (q .1) in
+    let i : 68 ∷ 69 ∷ (names ++ t) ≡ ys = cc (r .1) in
+    let m : length (names ++ t) ≡ 11 + length t = length-append names t ∙ omega arith in
+    let f : length t ≤ 67 = ltb-false 67 (length t) (p .0) in
+    ap readLine (sym i)
+    ∙ line-delete (68 ∷ 69 ∷ (names ++ t)) (omega arith) refl refl
+    ∙ delete-read (68 ∷ 69 ∷ (names ++ t)) (omega (arith, m)) (omega (arith, m, f)) (differs-same (barred 3 13 3 (names ++ t)) 0 (r .0))
+    ∙ ap ok (rw (take-at names t 11 n, drop-at names t 11 n))
+
+-- ---- what was read is accepted
+
+pub record Accepts (m : Message) : Type 0 where
+  pub bytes : List ℕ
+  pub is : writeMessage m 80 ≡ ok bytes
+
+record Was (a : Answer Rec) (m : Message) : Type 0 where
+  value : Rec
+  read : a ≡ ok value
+  is : event (value .numbers) (value .chars) ≡ m
+
+was-of : (a : Answer Rec) (m : Message) → asEvent a ≡ ok m → Was a m
+was-of (ok r) m e = record { value = r; read = refl; is = cc }
+was-of (refusal n k) m e = let z : _≡_ {A = ℕ} 0 1 = cc in let y : ⊥ = omega arith in absurd y
+
+-- nothing is barred after the type either
+after-type : (l s : List ℕ) → 2 ≤ length l → take 2 l ++ s ≡ l → barredIn l ≡ 0 → barred 3 13 3 s ≡ 0
+after-type l s h e b =
+    let n : length (take 2 l) ≡ 2 = length-take-le 2 l h in
+    let p = barred-split 3 13 1 (take 2 l) s (omega arith) (ap (barred 3 13 1) e ∙ b) .1 in
+    let z : 1 + length (take 2 l) ≡ 3 = omega arith in
+    ap (λ (k : ℕ). barred 3 13 k s) (sym z) ∙ p
+
+event-accepted : (l : List ℕ) (m : Message) → readEvent l ≡ ok m → Accepts m
+unfolding readEvent good widths bracketsIn
+event-accepted l m e =
+    let p = passed (differs (length l) 80) wrongLength 0 (unless (differs (barredIn (take 79 l)) 0) barredByte (barredIn (take 79 l)) (unless (differs (getD l 79 0) (checkCharacter (take 79 l))) wrongCheck 80 (asEvent (readColumns eventColumns [] 2 (drop 2 l))))) m e in
+    let q = passed (differs (barredIn (take 79 l)) 0) barredByte (barredIn (take 79 l)) (unless (differs (getD l 79 0) (checkCharacter (take 79 l))) wrongCheck 80 (asEvent (readColumns eventColumns [] 2 (drop 2 l)))) m (p .1) in
+    let r = passed (differs (getD l 79 0) (checkCharacter (take 79 l))) wrongCheck 80 (asEvent (readColumns eventColumns [] 2 (drop 2 l))) m (q .1) in
+    let w = was-of (readColumns eventColumns [] 2 (drop 2 l)) m (r .1) in
+    let n : length l ≡ 80 = differs-same (length l) 80 (p .0) in
+    let k : length (take 77 (drop 2 l)) ≡ 77 = length-take-le 77 (drop 2 l) (omega (arith, length-drop 2 l)) in
+    let lt : length (take 79 l) ≡ 79 = length-take-le 79 l (omega arith) in
+    let c : take 2 (take 79 l) ++ take 77 (drop 2 l) ≡ take 79 l = ap (λ (x : List ℕ). x ++ take 77 (drop 2 l)) (take-take 2 79 l (omega arith)) ∙ sym (take-add 2 77 l) in
+    let b = after-type (take 79 l) (take 77 (drop 2 l)) (omega arith) c (differs-same (barredIn (take 79 l)) 0 (q .0)) in
+    let d : readColumns eventColumns [] 2 (take 77 (drop 2 l)) ≡ ok (w .value) =
+    sym (columns-more-bytes eventColumns [] 2 (take 77 (drop 2 l)) (drop 77 (drop 2 l)) (omega arith)) ∙ ap (readColumns eventColumns [] 2) (take-append-drop 77 (drop 2 l)) ∙ w .read in
+    let x = columns-accepted eventColumns [] 2 (take 77 (drop 2 l)) (w .value) tt (omega arith) (line-clean 3 13 eventColumns 2 (take 77 (drop 2 l)) tt k b) d in
+    subst Accepts (w .is) (record { bytes = sealed (x .bytes); is = put-event (w .value .numbers) (w .value .chars) 80 (omega arith) (x .bytes) (x .written) })
+
+delete-accepted : (l : List ℕ) (m : Message) → readDelete l ≡ ok m → Accepts m
+unfolding readDelete
+delete-accepted l m e =
+    let p = passed (ltb (length l) 13) wrongLength 0 (unless (ltb 80 (length l)) wrongLength 0 (unless (differs (barredIn l) 0) barredByte (barredIn l) (ok (delete (take 11 (drop 2 l)) (drop 13 l))))) m e in
+    let q = passed (ltb 80 (length l)) wrongLength 0 (unless (differs (barredIn l) 0) barredByte (barredIn l) (ok (delete (take 11 (drop 2 l)) (drop 13 l)))) m (p .1) in
+    let r = passed (differs (barredIn l) 0) barredByte (barredIn l) (ok (delete (take 11 (drop 2 l)) (drop 13 l))) m (q .1) in
+    let i : delete (take 11 (drop 2 l)) (drop 13 l) ≡ m = cc (r .1) in
+    let h : 13 ≤ length l = ltb-false (length l) 13 (p .0) in
+    let k : length l ≤ 80 = ltb-false 80 (length l) (q .0) in
+    let d : drop 11 (drop 2 l) ≡ drop 13 l = drop-drop 11 2 l in
+    let b = after-type l (drop 2 l) (omega arith) (take-append-drop 2 l) (differs-same (barredIn l) 0 (r .0)) in
+    let n : length (drop 2 l) ≡ length l - 2 = length-drop 2 l in
+    let w = put-delete (drop 2 l) 80 (omega arith) (omega arith) (omega arith) b in
+    subst Accepts (ap (delete (take 11 (drop 2 l))) d ∙ i) (record { bytes = 68 ∷ 69 ∷ drop 2 l; is = w })
+
+type-case : (s t : Bool) (l : List ℕ) (m : Message) → pick s (readEvent l) (pick t (readDelete l) (refusal wrongType 1)) ≡ ok m → Accepts m
+type-case true t l m e = event-accepted l m e
+type-case false true l m e = delete-accepted l m e
+type-case false false l m e = let z : _≡_ {A = ℕ} 0 1 = cc in let y : ⊥ = omega arith in absurd y
+
+pub line-accepted : (l : List ℕ) (m : Message) → readLine l ≡ ok m → Accepts m
+unfolding readLine
+line-accepted l m e =
+    type-case (isType 69 32 l) (isType 68 69 l) l m (passed (ltb (length l) 2) wrongLength 0 (pick (isType 69 32 l) (readEvent l) (pick (isType 68 69 l) (readDelete l) (refusal wrongType 1))) m e .1)
