@@ -1,2 +1,1 @@
 pub mod laws
-pub mod Marked

@@ -1,28 +1,31 @@
--- The marked values of f5.1, read and written, as one table. Document 01, "Marked values".
+-- The marked values, as one table: f5.1 read and written, and check characters. Document 01, "Marked values".
 use mathlib.Core.Path.{_≡_, refl}
 use mathlib.Core.List.{List, [], _∷_, map}
 use Prim.Native.Nat.{ℕ}
 use lib.IntN.{ℤ, pos, negsuc}
 use Rattle.columns.specs.Answer.{Answer, ok, refusal, badForm, tooWide}
 use Rattle.columns.specs.Bytes.{trim}
 use Rattle.columns.specs.Number.{digits, number, signedNumber, scan, fraction, decField, holdsDec}
 use Rattle.columns.specs.Column.{Slot, missing, given, Rec, allowed, span, optional, Col, decimal}
 use Rattle.columns.specs.Reading.{readCell}
 use Rattle.columns.specs.Writing.{writeCell}
+use Rattle.formats.specs.Check.{checkSum, checkCharacter}
 
 -- a field of columns 1 to 5 that holds any number that f5.1 can hold
 abbrev f51 : Col
 f51 = decimal 5 1 optional (span (negsuc 998) (pos 9999))
 
--- what is asked of the field, and what it answers: its number, or the number of the refusal
+-- what is asked of the field or of some bytes, and what is answered: a number, the number of a refusal, a character
 pub data Asked : Type 0 where
   reads : List ℕ → Asked
   writes : ℤ → Asked
+  checks : List ℕ → Asked
 
 pub data Answered : Type 0 where
   reading : Slot → Answered
   written : Answered
   refused : ℕ → Answered
+  character : ℕ → Answered
 
 abbrev pub firstNumber : List Slot → Answered
 firstNumber [] = written
@@ -39,6 +42,7 @@ ofWrite (refusal n k) = refused n
 abbrev pub answer : Asked → Answered
 answer (reads f) = ofRead (readCell f51 [] 0 f)
 answer (writes v) = ofWrite (writeCell f51 [] 0 (given v ∷ []) [])
+answer (checks s) = character (checkCharacter s)
 
 pub record Row : Type 0 where
   pub asked : Asked
@@ -61,8 +65,12 @@ table =
     -- 10000 and -1000
     ∷ row (writes (pos 10000)) (refused tooWide)
     ∷ row (writes (negsuc 999)) (refused tooWide)
+    -- no bytes, `E`, `E `
+    ∷ row (checks []) (character 36)
+    ∷ row (checks (69 ∷ [])) (character 105)
+    ∷ row (checks (69 ∷ 32 ∷ [])) (character 110)
     ∷ []
 
 pub marked : map (λ r. answer (r .asked)) table ≡ map (λ r. r .answered) table
-unfolding readCell writeCell allowed decField holdsDec fraction scan signedNumber number digits trim
+unfolding checkCharacter checkSum readCell writeCell allowed decField holdsDec fraction scan signedNumber number digits trim
 marked = refl
