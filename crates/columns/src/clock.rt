@@ -11,6 +11,7 @@ use super::written::holds_dec;
 use super::written::holds_int;
 use super::written::magnitude_of;
 ghost use mathlib.Core.Path.{_≡_};
+ghost use mathlib.Core.Bool.{_&&_};
 ghost use Prim.Native.Nat.{_+_, _%_, _≤_};
 ghost use lib.ListN.{length, getD};
 ghost use lib.Seq.{slice};
@@ -68,29 +69,33 @@ pub fn read_clock(line: &[u8], at: usize) -> Time
     )
 }
 
+fn all_three(a: bool, b: bool, c: bool) -> bool
+    ensures { λ r. ⌜ r ≡ (a && (b && c)) ⌝ }
+{
+    if !a {
+        return false;
+    }
+    if !b {
+        return false;
+    }
+    c
+}
+
 // Hour, minute and thousandths of a second in their ranges.
 pub fn in_day(h: i64, m: i64, s: i64) -> bool
     ensures { λ r. ⌜ r ≡ clockRange h m s ⌝ }
 {
-    if !in_range(0, 23, h) {
-        return false;
-    }
-    if !in_range(0, 59, m) {
-        return false;
-    }
-    in_range(0, 59999, s)
+    all_three(
+        in_range(0, 23, h),
+        in_range(0, 59, m),
+        in_range(0, 59999, s),
+    )
 }
 
 fn holds_time(h: i64, m: i64, s: i64) -> bool
     ensures { λ r. ⌜ r ≡ clockHolds h m s ⌝ }
 {
-    if !holds_int(2, h) {
-        return false;
-    }
-    if !holds_int(2, m) {
-        return false;
-    }
-    holds_dec(6, s)
+    all_three(holds_int(2, h), holds_int(2, m), holds_dec(6, s))
 }
 
 fn digit(n: u64) -> u8

@@ -83,14 +83,14 @@ asEvent (ok r) = ok (event (r .numbers) (r .chars))
 asEvent (refusal n k) = refusal n k
 
 -- the lowest barred byte, brackets barred in columns 3 to 13
-abbrev pub barredIn : List ℕ → ℕ
-barredIn l = barred 3 13 1 l
+abbrev pub lowestBarred : List ℕ → ℕ
+lowestBarred l = barred 3 13 1 l
 
 -- an E line: 80 bytes, the check character in column 80 over the 79 before it
 unfoldable pub readEvent : List ℕ → Answer Message
 readEvent l =
     unless (differs (length l) 80) wrongLength 0
-    (unless (differs (barredIn (take 79 l)) 0) barredByte (barredIn (take 79 l))
+    (unless (differs (lowestBarred (take 79 l)) 0) barredByte (lowestBarred (take 79 l))
     (unless (differs (getD l 79 0) (checkCharacter (take 79 l))) wrongCheck 80
     (asEvent (readColumns eventColumns [] 2 (drop 2 l)))))
 
@@ -99,7 +99,7 @@ unfoldable pub readDelete : List ℕ → Answer Message
 readDelete l =
     unless (ltb (length l) 13) wrongLength 0
     (unless (ltb 80 (length l)) wrongLength 0
-    (unless (differs (barredIn l) 0) barredByte (barredIn l)
+    (unless (differs (lowestBarred l) 0) barredByte (lowestBarred l)
     (ok (delete (take 11 (drop 2 l)) (drop 13 l)))))
 
 abbrev pub isType : ℕ → ℕ → List ℕ → Bool

@@ -329,26 +329,32 @@ pub fn write_event(flags: &[u8; 19], values: &[i64; 19], text: &[u8; 13], out: &
     r
 }
 
-// A delete's record, identifier, source and version and after them its free text, as a line over the first bytes of `out`.
-// Nothing is changed where it is refused.
-pub fn write_delete(text: &[u8], out: &mut [u8]) -> Outcome
-    requires { ⌜ 11 ≤ length (now text) ⌝ }
-    ensures { λ r. ⌜ Wrote (writeMessage (delete (take 11 (now (text .entry))) (drop 11 (now (text .entry)))) (length (now (out .entry)))) r (now (out .entry)) (now (out .exit)) ⌝ }
+// A delete's record, identifier, source and version and its free text, as a line over the first bytes of `out`. Nothing is
+// changed where it is refused.
+pub fn write_delete(names: &[u8; 11], text: &[u8], out: &mut [u8]) -> Outcome
+    ensures { λ r. ⌜ Wrote (writeMessage (delete (now (names .entry)) (now (text .entry))) (length (now (out .entry)))) r (now (out .entry)) (now (out .exit)) ⌝ }
 {
     let len = text.len();
-    if 78 < len {
+    if 67 < len {
         return Outcome::Refused(super::LENGTH, 0);
     }
-    let end = len + 2;
+    let end = 13 + len;
     if out.len() < end {
         return Outcome::Refused(columns::SHORT, 0);
     }
-    let barred = first_barred(text, 3, 3, 13);
+    let barred = first_barred(names, 3, 3, 13);
     if barred != 0 {
         return Outcome::Refused(columns::BARRED, barred);
     }
-    out[0] = 68;
-    out[1] = 69;
-    copy(&mut out[2..end], text);
+    let barred = first_barred(text, 14, 3, 13);
+    if barred != 0 {
+        return Outcome::Refused(columns::BARRED, barred);
+    }
+    let mut line = [0u8; 80];
+    line[0] = 68;
+    line[1] = 69;
+    copy(&mut line[2..13], names);
+    copy(&mut line[13..end], text);
+    copy(out, &line[0..end]);
     Outcome::Done
 }

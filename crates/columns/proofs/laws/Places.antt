@@ -6,7 +6,7 @@ use native.Mathlib.Omega.{arith}
 use lib.ListN.{length, take, drop, set, length-append, length-drop, take-append-drop, length-set}
 use native.Mathlib.Numerals.{add-one}
 use lib.Seq.{take-at, drop-at, length-take-le, drop-drop, set-split}
-use borrow.Rule.Slice.PartMut.{putMid, midOf}
+use borrow.Rule.Slice.PartMut.{putMid, midOf, mid-len}
 use Rattle.columns.specs.Table.{placed, over}
 use Rattle.columns.proofs.laws.Answers.{over-whole}
 
@@ -53,8 +53,7 @@ module _ {A : Type 0} where
 pub part-placed : (k e : ℕ) (ys l : List ℕ) → e ≡ k + length ys → putMid k (e - k) l ys ≡ placed k ys l
 part-placed k e ys l h = let z : e - k ≡ length ys = omega arith in rw z
 
-pub chars-placed : (k : ℕ) (s l ys : List ℕ) → k + length s ≤ length l → ys ≡ over s (midOf k (k + length s - k) l) → putMid k (k + length s - k) l ys ≡ placed k s l
-chars-placed k s l ys h e =
-    let z : k + length s - k ≡ length s = omega arith in
-    let m : length s ≡ length (midOf k (length s) l) = sym (length-take-le (length s) (drop k l) (omega (arith, length-drop k l))) in
-    rw (z, (rw z at e) ∙ over-whole s (midOf k (length s) l) m)
+pub chars-placed : (k e : ℕ) (s l ys : List ℕ) → e ≡ k + length s → e ≤ length l → ys ≡ over s (midOf k (e - k) l) → putMid k (e - k) l ys ≡ placed k s l
+chars-placed k e s l ys h f q =
+    let m : length s ≡ length (midOf k (e - k) l) = sym (mid-len k e l f ∙ omega arith) in
+    ap (putMid k (e - k) l) (q ∙ over-whole s (midOf k (e - k) l) m) ∙ part-placed k e s l h

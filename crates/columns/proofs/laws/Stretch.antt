@@ -1,6 +1,6 @@
 -- The lowest barred byte of a line is 0 exactly where each column has allowed bytes, for a list of columns whose columns that
 -- bar brackets make up the stretch.
-use mathlib.Core.Path.{_≡_, refl, _∙_}
+use mathlib.Core.Path.{_≡_, refl, _∙_, ap, sym}
 use mathlib.Core.Bool.{Bool, true, false, _&&_}
 use mathlib.Core.List.{List, [], _∷_, _++_}
 use Prim.Native.Nat.{ℕ, suc, _+_, _≤_, _<_}
@@ -30,16 +30,25 @@ module _ (from to : ℕ) where
   barred-split k [] b h e = let z : k + 0 ≡ k = omega arith in (refl, rw z e)
   barred-split k (x ∷ a) b h e = split-case (isAllowed (inside from to k) x) k a b h (barred-split (k + 1) a b (omega arith)) e
 
-  join-case : (t : Bool) (k : ℕ) (a b : List ℕ) → 0 < k → (barred from to (k + 1) a ≡ 0 → barred from to (k + 1) (a ++ b) ≡ 0) → pick t (barred from to (k + 1) a) k ≡ 0 → pick t (barred from to (k + 1) (a ++ b)) k ≡ 0
-  join-case true k a b h f e = f e
-  join-case false k a b h f e = e
+  first-case : (t : Bool) (k : ℕ) (a b : List ℕ) → ((barred from to (k + 1) a ≡ 0 → ⊥) → barred from to (k + 1) (a ++ b) ≡ barred from to (k + 1) a) → (pick t (barred from to (k + 1) a) k ≡ 0 → ⊥) → pick t (barred from to (k + 1) (a ++ b)) k ≡ pick t (barred from to (k + 1) a) k
+  first-case true k a b f e = f e
+  first-case false k a b f e = refl
 
-  pub barred-join : (k : ℕ) (a b : List ℕ) → 0 < k → barred from to k a ≡ 0 → barred from to (k + length a) b ≡ 0 → barred from to k (a ++ b) ≡ 0
+  -- a barred byte of the first part is the lowest
+  pub barred-first : (k : ℕ) (a b : List ℕ) → (barred from to k a ≡ 0 → ⊥) → barred from to k (a ++ b) ≡ barred from to k a
   unfolding barred
-  barred-join k [] b h e q = let z : k + 0 ≡ k = omega arith in rw z at q
-  barred-join k (x ∷ a) b h e q =
-      let z : k + suc (length a) ≡ k + 1 + length a = omega arith in
-      join-case (isAllowed (inside from to k) x) k a b h (λ p. barred-join (k + 1) a b (omega arith) p (rw z at q)) e
+  barred-first k [] b e = let y : ⊥ = e refl in absurd y
+  barred-first k (x ∷ a) b e = first-case (isAllowed (inside from to k) x) k a b (barred-first (k + 1) a b) e
+
+  rest-case : (t : Bool) (k : ℕ) (a b : List ℕ) → (barred from to (k + 1) a ≡ 0 → barred from to (k + 1) (a ++ b) ≡ barred from to (k + 1 + length a) b) → 0 < k → pick t (barred from to (k + 1) a) k ≡ 0 → pick t (barred from to (k + 1) (a ++ b)) k ≡ barred from to (k + suc (length a)) b
+  rest-case true k a b f h e = let z : k + suc (length a) ≡ k + 1 + length a = omega arith in rw z (f e)
+  rest-case false k a b f h e = let y : ⊥ = omega arith in absurd y
+
+  -- after a clear first part the second decides
+  pub barred-after : (k : ℕ) (a b : List ℕ) → 0 < k → barred from to k a ≡ 0 → barred from to k (a ++ b) ≡ barred from to (k + length a) b
+  unfolding barred
+  barred-after k [] b h e = let z : k + 0 ≡ k = omega arith in rw z
+  barred-after k (x ∷ a) b h e = rest-case (isAllowed (inside from to k) x) k a b (barred-after (k + 1) a b (omega arith)) h e
 
   -- ---- a column in the stretch or out of it
 
@@ -82,4 +91,7 @@ module _ (from to : ℕ) where
       let z : at + 1 + length (take (width c) line) ≡ at + width c + 1 = omega arith in
       let a = clear-none from to (barsOf c) (at + 1) {s = take (width c) line} (λ i u v. stretch-case at (width c) i u (omega (arith, n)) (barsOf c) (T-true (inStretch c at from to) (gs .0))) p in
       let b = clean-line cs (at + width c) (drop (width c) line) (gs .1) (length-drop (width c) line ∙ omega arith) ps in
-      rw take-append-drop at (barred-join (at + 1) (take (width c) line) (drop (width c) line) (omega arith) a (rw z b))
+      ap (barred from to (at + 1)) (sym (take-append-drop (width c) line))
+      ∙ barred-after (at + 1) (take (width c) line) (drop (width c) line) (omega arith) a
+      ∙ ap (λ (k : ℕ). barred from to k (drop (width c) line)) z
+      ∙ b

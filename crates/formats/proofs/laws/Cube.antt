@@ -14,7 +14,7 @@ use Rattle.columns.specs.Column.{Rec}
 use Rattle.columns.specs.Reading.{readColumns}
 use Rattle.columns.specs.Table.{over}
 use Rattle.formats.specs.Check.{checkCharacter}
-use Rattle.formats.specs.Cube.{eventColumns, delete, differs, asEvent, barredIn, readEvent, readDelete, readLine, lineOf, wrongLength, wrongType, wrongCheck, Message}
+use Rattle.formats.specs.Cube.{eventColumns, delete, differs, asEvent, lowestBarred, readEvent, readDelete, readLine, lineOf, wrongLength, wrongType, wrongCheck, Message}
 use Rattle.columns.proofs.laws.Reader.{Whole}
 use Rattle.formats.specs.declared.cube.Read.the-variants as R
 
@@ -32,18 +32,18 @@ module _ (l : List ℕ) where
   event-length n = rw (differs-is (length l) 80 n)
 
   module _ (n : length l ≡ 80) where
-    pub event-barred : (barredIn (take 79 l) ≡ 0 → ⊥) → readEvent l ≡ refusal barredByte (barredIn (take 79 l))
+    pub event-barred : (lowestBarred (take 79 l) ≡ 0 → ⊥) → readEvent l ≡ refusal barredByte (lowestBarred (take 79 l))
     unfolding readEvent
-    event-barred b = rw (differs-not (length l) 80 n, differs-is (barredIn (take 79 l)) 0 b)
+    event-barred b = rw (differs-not (length l) 80 n, differs-is (lowestBarred (take 79 l)) 0 b)
 
-    module _ (b : barredIn (take 79 l) ≡ 0) where
+    module _ (b : lowestBarred (take 79 l) ≡ 0) where
       pub event-check : (getD l 79 0 ≡ checkCharacter (take 79 l) → ⊥) → readEvent l ≡ refusal wrongCheck 80
       unfolding readEvent
-      event-check c = rw (differs-not (length l) 80 n, differs-not (barredIn (take 79 l)) 0 b, differs-is (getD l 79 0) (checkCharacter (take 79 l)) c)
+      event-check c = rw (differs-not (length l) 80 n, differs-not (lowestBarred (take 79 l)) 0 b, differs-is (getD l 79 0) (checkCharacter (take 79 l)) c)
 
       pub event-columns : getD l 79 0 ≡ checkCharacter (take 79 l) → readEvent l ≡ asEvent (readColumns eventColumns [] 2 (drop 2 l))
       unfolding readEvent
-      event-columns c = rw (differs-not (length l) 80 n, differs-not (barredIn (take 79 l)) 0 b, differs-not (getD l 79 0) (checkCharacter (take 79 l)) c)
+      event-columns c = rw (differs-not (length l) 80 n, differs-not (lowestBarred (take 79 l)) 0 b, differs-not (getD l 79 0) (checkCharacter (take 79 l)) c)
 
   -- ---- a DE line
 
@@ -57,13 +57,13 @@ module _ (l : List ℕ) where
     delete-long k = rw (le-ltb _ _ h, lt-ltb _ _ k)
 
     module _ (k : length l ≤ 80) where
-      pub delete-barred : (barredIn l ≡ 0 → ⊥) → readDelete l ≡ refusal barredByte (barredIn l)
+      pub delete-barred : (lowestBarred l ≡ 0 → ⊥) → readDelete l ≡ refusal barredByte (lowestBarred l)
       unfolding readDelete
-      delete-barred b = rw (le-ltb _ _ h, le-ltb _ _ k, differs-is (barredIn l) 0 b)
+      delete-barred b = rw (le-ltb _ _ h, le-ltb _ _ k, differs-is (lowestBarred l) 0 b)
 
-      pub delete-read : barredIn l ≡ 0 → readDelete l ≡ ok (delete (take 11 (drop 2 l)) (drop 13 l))
+      pub delete-read : lowestBarred l ≡ 0 → readDelete l ≡ ok (delete (take 11 (drop 2 l)) (drop 13 l))
       unfolding readDelete
-      delete-read b = rw (le-ltb _ _ h, le-ltb _ _ k, differs-not (barredIn l) 0 b)
+      delete-read b = rw (le-ltb _ _ h, le-ltb _ _ k, differs-not (lowestBarred l) 0 b)
 
   -- ---- either kind
 

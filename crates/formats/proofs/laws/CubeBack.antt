@@ -13,7 +13,7 @@ use Rattle.columns.specs.Bytes.{barred}
 use Rattle.columns.specs.Column.{Slot, good, widths, allSlots, allTexts, bracketsIn, Rec}
 use Rattle.columns.specs.Writing.{writeColumns}
 use Rattle.formats.specs.Check.{checkCharacter}
-use Rattle.formats.specs.Cube.{eventColumns, event, delete, unless, differs, sealed, sealedAnswer, barredIn, readLine, asEvent, writeMessage, wrongLength, Message, readEvent, readDelete, isType, wrongType, wrongCheck}
+use Rattle.formats.specs.Cube.{eventColumns, event, delete, unless, differs, sealed, sealedAnswer, lowestBarred, readLine, asEvent, writeMessage, wrongLength, Message, readEvent, readDelete, isType, wrongType, wrongCheck}
 use Rattle.columns.proofs.laws.Columns.{Line, columns-back, columns-more-bytes}
 use Rattle.columns.proofs.laws.Stretch.{clean-line, barred-split, line-clean}
 use Rattle.columns.proofs.laws.Answers.{passed}
@@ -57,7 +57,7 @@ module _ (ns : List Slot) (t zs : List ℕ) (a : length ns ≡ 19) (b : length t
   head-is : take 79 (sealed zs) ≡ 69 ∷ 32 ∷ zs
   head-is = take-at (69 ∷ 32 ∷ zs) (checkCharacter (69 ∷ 32 ∷ zs) ∷ []) 79 head-length
 
-  event-clear : barredIn (take 79 (sealed zs)) ≡ 0
+  event-clear : lowestBarred (take 79 (sealed zs)) ≡ 0
   unfolding barred widths bracketsIn
   event-clear = ap (barred 3 13 1) head-is ∙ clean-line 3 13 eventColumns 2 zs tt (event-line .size) (event-line .clean)
 
@@ -111,7 +111,7 @@ was-of (ok r) m e = record { value = r; read = refl; is = cc }
 was-of (refusal n k) m e = let z : _≡_ {A = ℕ} 0 1 = cc in let y : ⊥ = omega arith in absurd y
 
 -- nothing is barred after the type either
-after-type : (l s : List ℕ) → 2 ≤ length l → take 2 l ++ s ≡ l → barredIn l ≡ 0 → barred 3 13 3 s ≡ 0
+after-type : (l s : List ℕ) → 2 ≤ length l → take 2 l ++ s ≡ l → lowestBarred l ≡ 0 → barred 3 13 3 s ≡ 0
 after-type l s h e b =
     let n : length (take 2 l) ≡ 2 = length-take-le 2 l h in
     let p = barred-split 3 13 1 (take 2 l) s (omega arith) (ap (barred 3 13 1) e ∙ b) .1 in
@@ -121,15 +121,15 @@ after-type l s h e b =
 event-accepted : (l : List ℕ) (m : Message) → readEvent l ≡ ok m → Accepts m
 unfolding readEvent good widths bracketsIn
 event-accepted l m e =
-    let p = passed (differs (length l) 80) wrongLength 0 (unless (differs (barredIn (take 79 l)) 0) barredByte (barredIn (take 79 l)) (unless (differs (getD l 79 0) (checkCharacter (take 79 l))) wrongCheck 80 (asEvent (readColumns eventColumns [] 2 (drop 2 l))))) m e in
-    let q = passed (differs (barredIn (take 79 l)) 0) barredByte (barredIn (take 79 l)) (unless (differs (getD l 79 0) (checkCharacter (take 79 l))) wrongCheck 80 (asEvent (readColumns eventColumns [] 2 (drop 2 l)))) m (p .1) in
+    let p = passed (differs (length l) 80) wrongLength 0 (unless (differs (lowestBarred (take 79 l)) 0) barredByte (lowestBarred (take 79 l)) (unless (differs (getD l 79 0) (checkCharacter (take 79 l))) wrongCheck 80 (asEvent (readColumns eventColumns [] 2 (drop 2 l))))) m e in
+    let q = passed (differs (lowestBarred (take 79 l)) 0) barredByte (lowestBarred (take 79 l)) (unless (differs (getD l 79 0) (checkCharacter (take 79 l))) wrongCheck 80 (asEvent (readColumns eventColumns [] 2 (drop 2 l)))) m (p .1) in
     let r = passed (differs (getD l 79 0) (checkCharacter (take 79 l))) wrongCheck 80 (asEvent (readColumns eventColumns [] 2 (drop 2 l))) m (q .1) in
     let w = was-of (readColumns eventColumns [] 2 (drop 2 l)) m (r .1) in
     let n : length l ≡ 80 = differs-same (length l) 80 (p .0) in
     let k : length (take 77 (drop 2 l)) ≡ 77 = length-take-le 77 (drop 2 l) (omega (arith, length-drop 2 l)) in
     let lt : length (take 79 l) ≡ 79 = length-take-le 79 l (omega arith) in
     let c : take 2 (take 79 l) ++ take 77 (drop 2 l) ≡ take 79 l = ap (λ (x : List ℕ). x ++ take 77 (drop 2 l)) (take-take 2 79 l (omega arith)) ∙ sym (take-add 2 77 l) in
-    let b = after-type (take 79 l) (take 77 (drop 2 l)) (omega arith) c (differs-same (barredIn (take 79 l)) 0 (q .0)) in
+    let b = after-type (take 79 l) (take 77 (drop 2 l)) (omega arith) c (differs-same (lowestBarred (take 79 l)) 0 (q .0)) in
     let d : readColumns eventColumns [] 2 (take 77 (drop 2 l)) ≡ ok (w .value) =
     sym (columns-more-bytes eventColumns [] 2 (take 77 (drop 2 l)) (drop 77 (drop 2 l)) (omega arith)) ∙ ap (readColumns eventColumns [] 2) (take-append-drop 77 (drop 2 l)) ∙ w .read in
     let x = columns-accepted eventColumns [] 2 (take 77 (drop 2 l)) (w .value) tt (omega arith) (line-clean 3 13 eventColumns 2 (take 77 (drop 2 l)) tt k b) d in
@@ -138,17 +138,19 @@ event-accepted l m e =
 delete-accepted : (l : List ℕ) (m : Message) → readDelete l ≡ ok m → Accepts m
 unfolding readDelete
 delete-accepted l m e =
-    let p = passed (ltb (length l) 13) wrongLength 0 (unless (ltb 80 (length l)) wrongLength 0 (unless (differs (barredIn l) 0) barredByte (barredIn l) (ok (delete (take 11 (drop 2 l)) (drop 13 l))))) m e in
-    let q = passed (ltb 80 (length l)) wrongLength 0 (unless (differs (barredIn l) 0) barredByte (barredIn l) (ok (delete (take 11 (drop 2 l)) (drop 13 l)))) m (p .1) in
-    let r = passed (differs (barredIn l) 0) barredByte (barredIn l) (ok (delete (take 11 (drop 2 l)) (drop 13 l))) m (q .1) in
+    let p = passed (ltb (length l) 13) wrongLength 0 (unless (ltb 80 (length l)) wrongLength 0 (unless (differs (lowestBarred l) 0) barredByte (lowestBarred l) (ok (delete (take 11 (drop 2 l)) (drop 13 l))))) m e in
+    let q = passed (ltb 80 (length l)) wrongLength 0 (unless (differs (lowestBarred l) 0) barredByte (lowestBarred l) (ok (delete (take 11 (drop 2 l)) (drop 13 l)))) m (p .1) in
+    let r = passed (differs (lowestBarred l) 0) barredByte (lowestBarred l) (ok (delete (take 11 (drop 2 l)) (drop 13 l))) m (q .1) in
     let i : delete (take 11 (drop 2 l)) (drop 13 l) ≡ m = cc (r .1) in
     let h : 13 ≤ length l = ltb-false (length l) 13 (p .0) in
     let k : length l ≤ 80 = ltb-false 80 (length l) (q .0) in
     let d : drop 11 (drop 2 l) ≡ drop 13 l = drop-drop 11 2 l in
-    let b = after-type l (drop 2 l) (omega arith) (take-append-drop 2 l) (differs-same (barredIn l) 0 (r .0)) in
+    let b = after-type l (drop 2 l) (omega arith) (take-append-drop 2 l) (differs-same (lowestBarred l) 0 (r .0)) in
     let n : length (drop 2 l) ≡ length l - 2 = length-drop 2 l in
-    let w = put-delete (drop 2 l) 80 (omega arith) (omega arith) (omega arith) b in
-    subst Accepts (ap (delete (take 11 (drop 2 l))) d ∙ i) (record { bytes = 68 ∷ 69 ∷ drop 2 l; is = w })
+    let j : take 11 (drop 2 l) ++ drop 13 l ≡ drop 2 l = ap (λ (x : List ℕ). take 11 (drop 2 l) ++ x) (sym d) ∙ take-append-drop 11 (drop 2 l) in
+    let t : length (drop 13 l) ≡ length l - 13 = length-drop 13 l in
+    let w = put-delete (take 11 (drop 2 l)) (drop 13 l) 80 (omega arith) (omega arith) (ap (barred 3 13 3) j ∙ b) in
+    subst Accepts i (record { bytes = 68 ∷ 69 ∷ (take 11 (drop 2 l) ++ drop 13 l); is = w })
 
 type-case : (s t : Bool) (l : List ℕ) (m : Message) → pick s (readEvent l) (pick t (readDelete l) (refusal wrongType 1)) ≡ ok m → Accepts m
 type-case true t l m e = event-accepted l m e

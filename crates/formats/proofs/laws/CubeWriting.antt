@@ -1,12 +1,11 @@
 -- Each answer of a CUBE record that is written, as the code comes to it, and the bytes of its line.
 use mathlib.Core.Path.{_≡_, refl, sym, ap, _∙_}
 use mathlib.Core.List.{List, [], _∷_, _++_}
-use Prim.Native.Nat.{ℕ, _+_, _-_, _≤_, _<_}
+use Prim.Native.Nat.{ℕ, _+_, _≤_, _<_}
 use native.Mathlib.Omega.{arith}
-use lib.ListN.{length, take, drop, set, replicate, length-append, length-drop, take-append-drop, length-set}
+use lib.ListN.{length, take, set, replicate, length-append, length-set}
 use borrow.Author.Tests.{le-ltb, lt-ltb}
 use lib.Seq.{take-at, take-all, set-at}
-use borrow.Rule.Slice.PartMut.{midOf, putMid}
 use Rattle.columns.specs.declared.Outcome.{Outcome}
 use Rattle.columns.specs.Answer.{ok, refusal, barredByte, tooShort}
 use Rattle.columns.specs.Bytes.{barred}
@@ -15,39 +14,52 @@ use Rattle.columns.specs.Writing.{writeColumns, writePart}
 use Rattle.columns.specs.Table.{over, placed, Wrote, WrotePart}
 use Rattle.formats.specs.Check.{checkCharacter}
 use Rattle.formats.specs.Cube.{eventColumns, event, delete, sealed, writeMessage, wrongLength}
-use Rattle.columns.proofs.laws.Places.{set-placed, placed-placed, placed-split, chars-placed}
+use Rattle.columns.proofs.laws.Places.{set-placed, placed-placed, placed-split}
 use Rattle.columns.proofs.laws.Answers.{wrote-refused, wrote-whole, refused-of, done-of}
 use Rattle.columns.proofs.laws.Columns.{columns-size}
 use Rattle.columns.proofs.laws.Writer.{part-wrote}
 use Rattle.formats.proofs.laws.Cube.{differs-not, differs-is}
+use Rattle.columns.proofs.laws.Stretch.{barred-first, barred-after}
 use Rattle.columns.specs.declared.Outcome.the-variants as O
 
--- ---- a delete, whose names and free text are one list
+-- ---- a delete
 
-module _ (s : List ℕ) (room : ℕ) where
-  pub put-delete-long : 78 < length s → writeMessage (delete (take 11 s) (drop 11 s)) room ≡ refusal wrongLength 0
+module _ (names t : List ℕ) (room : ℕ) where
+  pub put-delete-long : 67 < length t → writeMessage (delete names t) room ≡ refusal wrongLength 0
   unfolding writeMessage
-  put-delete-long h = let k : 67 < length (drop 11 s) = rw length-drop (omega arith) in rw (lt-ltb _ _ k)
+  put-delete-long h = rw (lt-ltb _ _ h)
 
-  module _ (h : length s ≤ 78) (g : 11 ≤ length s) where
-    text-length : 13 + length (drop 11 s) ≡ length s + 2
-    text-length = omega (arith, length-drop 11 s)
-
-    text-fits : length (drop 11 s) ≤ 67
-    text-fits = rw length-drop (omega arith)
-
-    pub put-delete-short : room < length s + 2 → writeMessage (delete (take 11 s) (drop 11 s)) room ≡ refusal tooShort 0
+  module _ (h : length t ≤ 67) where
+    pub put-delete-short : room < 13 + length t → writeMessage (delete names t) room ≡ refusal tooShort 0
     unfolding writeMessage
-    put-delete-short k = rw (le-ltb _ _ text-fits, text-length, lt-ltb _ _ k)
+    put-delete-short k = rw (le-ltb _ _ h, lt-ltb _ _ k)
 
-    module _ (k : length s + 2 ≤ room) where
-      pub put-delete-barred : (barred 3 13 3 s ≡ 0 → ⊥) → writeMessage (delete (take 11 s) (drop 11 s)) room ≡ refusal barredByte (barred 3 13 3 s)
+    module _ (k : 13 + length t ≤ room) where
+      pub put-delete-barred : (barred 3 13 3 (names ++ t) ≡ 0 → ⊥) → writeMessage (delete names t) room ≡ refusal barredByte (barred 3 13 3 (names ++ t))
       unfolding writeMessage
-      put-delete-barred b = rw (le-ltb _ _ text-fits, text-length, le-ltb _ _ k, take-append-drop, differs-is (barred 3 13 3 s) 0 b)
+      put-delete-barred b = rw (le-ltb _ _ h, le-ltb _ _ k, differs-is (barred 3 13 3 (names ++ t)) 0 b)
 
-      pub put-delete : barred 3 13 3 s ≡ 0 → writeMessage (delete (take 11 s) (drop 11 s)) room ≡ ok (68 ∷ 69 ∷ s)
+      pub put-delete : barred 3 13 3 (names ++ t) ≡ 0 → writeMessage (delete names t) room ≡ ok (68 ∷ 69 ∷ (names ++ t))
       unfolding writeMessage
-      put-delete b = rw (le-ltb _ _ text-fits, text-length, le-ltb _ _ k, take-append-drop, differs-not (barred 3 13 3 s) 0 b)
+      put-delete b = rw (le-ltb _ _ h, le-ltb _ _ k, differs-not (barred 3 13 3 (names ++ t)) 0 b)
+
+      -- a barred byte in the names, and one in the text after clear names
+      pub put-names-barred : (x : ℕ) → x ≡ barred 3 13 3 names → (x ≡ 0 → ⊥) → writeMessage (delete names t) room ≡ refusal barredByte x
+      put-names-barred x e b =
+          let z : barred 3 13 3 (names ++ t) ≡ x = barred-first 3 13 3 names t (λ q. b (e ∙ q)) ∙ sym e in
+          put-delete-barred (λ q. b (sym z ∙ q)) ∙ ap (refusal barredByte) z
+
+      module _ (n : length names ≡ 11) (c : barred 3 13 3 names ≡ 0) where
+        text-barred : barred 3 13 3 (names ++ t) ≡ barred 3 13 14 t
+        text-barred = let z : 3 + length names ≡ 14 = omega arith in barred-after 3 13 3 names t (omega arith) c ∙ ap (λ (m : ℕ). barred 3 13 m t) z
+
+        pub put-text-barred : (x : ℕ) → x ≡ barred 3 13 14 t → (x ≡ 0 → ⊥) → writeMessage (delete names t) room ≡ refusal barredByte x
+        put-text-barred x e b =
+            let z : barred 3 13 3 (names ++ t) ≡ x = text-barred ∙ sym e in
+            put-delete-barred (λ q. b (sym z ∙ q)) ∙ ap (refusal barredByte) z
+
+        pub put-delete-clear : barred 3 13 14 t ≡ 0 → writeMessage (delete names t) room ≡ ok (68 ∷ 69 ∷ (names ++ t))
+        put-delete-clear e = put-delete (text-barred ∙ e)
 
 two-placed : (l : List ℕ) (a b : ℕ) → 2 ≤ length l → set (set l 0 a) 1 b ≡ placed 0 (a ∷ b ∷ []) l
 two-placed l a b h =
@@ -55,13 +67,21 @@ two-placed l a b h =
     ∙ ap (placed 1 (b ∷ [])) (set-placed 0 l a (omega arith))
     ∙ placed-placed 0 1 (a ∷ []) (b ∷ []) l refl (omega arith)
 
-pub typed-line : (l s ys : List ℕ) (a b : ℕ) → length s + 2 ≤ length l → ys ≡ over s (midOf 2 (length s + 2 - 2) (set (set l 0 a) 1 b)) → putMid 2 (length s + 2 - 2) (set (set l 0 a) 1 b) ys ≡ over (a ∷ b ∷ s) l
-typed-line l s ys a b h e =
-    let z : length s + 2 ≡ 2 + length s = omega arith in
-    let n : length (set (set l 0 a) 1 b) ≡ length l = length-set (set l 0 a) 1 b ∙ length-set l 0 a in
-    rw z (chars-placed 2 s (set (set l 0 a) 1 b) ys (omega (arith, n)) (rw z at e))
-    ∙ ap (placed 2 s) (two-placed l a b (omega arith))
-    ∙ placed-placed 0 2 (a ∷ b ∷ []) s l refl (omega arith)
+-- the line before its names and its text are written
+abbrev pub blankDelete : List ℕ
+blankDelete = set (set (replicate 80 0) 0 68) 1 69
+
+-- the type, the names and the text, one after the other
+pub delete-line : (names t : List ℕ) → length names ≡ 11 → length t ≤ 67 → placed 13 t (placed 2 names blankDelete) ≡ over (68 ∷ 69 ∷ (names ++ t)) (replicate 80 0)
+delete-line names t n h =
+    let z : 13 ≡ 0 + length (68 ∷ 69 ∷ names) = omega arith in
+    let e : placed 2 names blankDelete ≡ placed 0 (68 ∷ 69 ∷ names) (replicate 80 0) =
+    ap (placed 2 names) (two-placed (replicate 80 0) 68 69 (omega arith)) ∙ placed-placed 0 2 (68 ∷ 69 ∷ []) names (replicate 80 0) refl (omega arith) in
+    ap (placed 13 t) e ∙ placed-placed 0 13 (68 ∷ 69 ∷ names) t (replicate 80 0) z (omega arith)
+
+pub delete-taken : (names t line : List ℕ) (n : ℕ) → length names ≡ 11 → length t ≤ 67 → n ≡ 13 + length t → line ≡ placed 13 t (placed 2 names blankDelete) → take n line ≡ 68 ∷ 69 ∷ (names ++ t)
+delete-taken names t line n k h e q =
+    ap (take n) (q ∙ delete-line names t k h) ∙ take-at (68 ∷ 69 ∷ (names ++ t)) _ n (omega (arith, length-append names t))
 
 -- ---- an event, whose columns stand after its type and before its check character
 

@@ -3,6 +3,8 @@ use mir.ValLaws.{toZ-ofZ}
 use mir.Syntax.{w64}
 use mathlib.Core.Path.{refl}
 use native.Mathlib.Omega.{arith}
+use Prim.Native.Nat.{_+_}
+use lib.ListN.{length}
 use Rattle.columns.proofs.reader.store.Statement.{statement}
 use Rattle.columns.proofs.laws.Places.{placed-none, chars-placed}
 use Rattle.columns.specs.Table.{valuesOf, flagsOf}
@@ -140,7 +142,7 @@ returns-5 c =
       answer = refl;
       flags = placed-none (a .k) (a .flags .now);
       values = placed-none (a .k) (a .values .now);
-      chars = chars-placed (a .t) (a .f .now) (a .text .now) _ (p .chars) (c .before .before .copy .ensures);
+      chars = chars-placed (a .t) (a .t + length (a .f .now)) (a .f .now) (a .text .now) _ refl (p .chars) (c .before .before .copy .ensures);
     })
 
 returns-6 : tie.Need-returns-6
