@@ -17,3 +17,4 @@ pub mod Columns
 pub mod Writer
 pub mod Accepted
 pub mod Stretch
+pub mod Bounds

@@ -1,2 +1,4 @@
 pub mod Check
 pub mod Cube
+pub mod Record
+pub mod CubeRecord

@@ -1,6 +1,8 @@
-// Formats: CUBE messages.
+// Formats: CUBE messages, and the bytes of their records.
 pub mod check;
 pub mod cube;
+pub mod cube_record;
+pub mod record;
 
 // The numbers answered for a line, beside those of its columns (document 01, "Numbers answered").
 pub const LENGTH: u8 = 1;
@@ -8,3 +10,9 @@ pub const LENGTH: u8 = 1;
 pub const TYPE: u8 = 3;
 
 pub const CHECK: u8 = 9;
+
+// The answer of a call that writes into a lent place: the number of bytes written, or the number of a refusal and its column.
+pub enum Reply {
+    Done(usize),
+    Refused(u8, usize),
+}

@@ -67,7 +67,7 @@ module _ {A : Type 0} where
 
 -- ---- a list over the first places of another
 
-pub over-whole : (xs l : List ℕ) → length xs ≡ length l → over xs l ≡ xs
+pub over-whole : {A : Type 0} (xs l : List A) → length xs ≡ length l → over xs l ≡ xs
 over-whole xs l e = rw (drop-of-length-le l {i = length xs} (omega arith), append-nil)
 
 -- ---- a column's bytes

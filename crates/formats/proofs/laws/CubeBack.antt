@@ -78,7 +78,23 @@ event-back ns t ys room a b e =
     let s = sealed-of (writeColumns eventColumns [] 2 ns t) ys (p .1) in
     ap readLine (sym (s .is)) ∙ event-sealed ns t (s .columns) a b (s .wrote)
 
+pub event-size : (ns : List Slot) (t ys : List ℕ) (room : ℕ) → length ns ≡ 19 → length t ≡ 13 → writeMessage (event ns t) room ≡ ok ys → length ys ≡ 80
+unfolding writeMessage
+event-size ns t ys room a b e =
+    let p = passed (ltb room 80) tooShort 0 (sealedAnswer (writeColumns eventColumns [] 2 ns t)) ys e in
+    let s = sealed-of (writeColumns eventColumns [] 2 ns t) ys (p .1) in
+    ap length (sym (s .is)) ∙ omega (arith, head-length ns t (s .columns) a b (s .wrote), length-append (69 ∷ 32 ∷ s .columns) (checkCharacter (69 ∷ 32 ∷ s .columns) ∷ []))
+
 -- ---- a delete
+
+pub delete-size : (names t ys : List ℕ) (room : ℕ) → length names ≡ 11 → writeMessage (delete names t) room ≡ ok ys → length ys ≡ 13 + length t
+unfolding writeMessage
+delete-size names t ys room n e =
+    let p = passed (ltb 67 (length t)) wrongLength 0 (unless (ltb room (13 + length t)) tooShort 0 (unless (differs (barred 3 13 3 (names ++ t)) 0) barredByte (barred 3 13 3 (names ++ t)) (ok (68 ∷ 69 ∷ (names ++ t))))) ys e in
+    let q = passed (ltb room (13 + length t)) tooShort 0 (unless (differs (barred 3 13 3 (names ++ t)) 0) barredByte (barred 3 13 3 (names ++ t)) (ok (68 ∷ 69 ∷ (names ++ t)))) ys (p .1) in
+    let r = passed (differs (barred 3 13 3 (names ++ t)) 0) barredByte (barred 3 13 3 (names ++ t)) (ok (68 ∷ 69 ∷ (names ++ t))) ys (q .1) in
+    let i : 68 ∷ 69 ∷ (names ++ t) ≡ ys = cc (r .1) in
+    ap length (sym i) ∙ omega (arith, length-append names t)
 
 pub delete-back : (names t ys : List ℕ) (room : ℕ) → length names ≡ 11 → writeMessage (delete names t) room ≡ ok ys → readLine ys ≡ ok (delete names t)
 unfolding writeMessage barred
@@ -97,9 +113,15 @@ delete-back names t ys room n e =
 
 -- ---- what was read is accepted
 
+-- the parts of a message that was read
+abbrev pub Sized : Message → Type 0
+Sized (event ns t) = (length ns ≡ 19) × (length t ≡ 13)
+Sized (delete names t) = (length names ≡ 11) × (length t ≤ 67)
+
 pub record Accepts (m : Message) : Type 0 where
   pub bytes : List ℕ
   pub is : writeMessage m 80 ≡ ok bytes
+  pub sized : Sized m
 
 record Was (a : Answer Rec) (m : Message) : Type 0 where
   value : Rec
@@ -119,7 +141,7 @@ after-type l s h e b =
     ap (λ (k : ℕ). barred 3 13 k s) (sym z) ∙ p
 
 event-accepted : (l : List ℕ) (m : Message) → readEvent l ≡ ok m → Accepts m
-unfolding readEvent good widths bracketsIn
+unfolding readEvent good widths allSlots allTexts bracketsIn
 event-accepted l m e =
     let p = passed (differs (length l) 80) wrongLength 0 (unless (differs (lowestBarred (take 79 l)) 0) barredByte (lowestBarred (take 79 l)) (unless (differs (getD l 79 0) (checkCharacter (take 79 l))) wrongCheck 80 (asEvent (readColumns eventColumns [] 2 (drop 2 l))))) m e in
     let q = passed (differs (lowestBarred (take 79 l)) 0) barredByte (lowestBarred (take 79 l)) (unless (differs (getD l 79 0) (checkCharacter (take 79 l))) wrongCheck 80 (asEvent (readColumns eventColumns [] 2 (drop 2 l)))) m (p .1) in
@@ -133,7 +155,7 @@ event-accepted l m e =
     let d : readColumns eventColumns [] 2 (take 77 (drop 2 l)) ≡ ok (w .value) =
     sym (columns-more-bytes eventColumns [] 2 (take 77 (drop 2 l)) (drop 77 (drop 2 l)) (omega arith)) ∙ ap (readColumns eventColumns [] 2) (take-append-drop 77 (drop 2 l)) ∙ w .read in
     let x = columns-accepted eventColumns [] 2 (take 77 (drop 2 l)) (w .value) tt (omega arith) (line-clean 3 13 eventColumns 2 (take 77 (drop 2 l)) tt k b) d in
-    subst Accepts (w .is) (record { bytes = sealed (x .bytes); is = put-event (w .value .numbers) (w .value .chars) 80 (omega arith) (x .bytes) (x .written) })
+    subst Accepts (w .is) (record { bytes = sealed (x .bytes); is = put-event (w .value .numbers) (w .value .chars) 80 (omega arith) (x .bytes) (x .written); sized = (x .numbers, x .chars) })
 
 delete-accepted : (l : List ℕ) (m : Message) → readDelete l ≡ ok m → Accepts m
 unfolding readDelete
@@ -150,7 +172,7 @@ delete-accepted l m e =
     let j : take 11 (drop 2 l) ++ drop 13 l ≡ drop 2 l = ap (λ (x : List ℕ). take 11 (drop 2 l) ++ x) (sym d) ∙ take-append-drop 11 (drop 2 l) in
     let t : length (drop 13 l) ≡ length l - 13 = length-drop 13 l in
     let w = put-delete (take 11 (drop 2 l)) (drop 13 l) 80 (omega arith) (omega arith) (ap (barred 3 13 3) j ∙ b) in
-    subst Accepts i (record { bytes = 68 ∷ 69 ∷ (take 11 (drop 2 l) ++ drop 13 l); is = w })
+    subst Accepts i (record { bytes = 68 ∷ 69 ∷ (take 11 (drop 2 l) ++ drop 13 l); is = w; sized = (length-take-le 11 (drop 2 l) (omega arith), omega arith) })
 
 type-case : (s t : Bool) (l : List ℕ) (m : Message) → pick s (readEvent l) (pick t (readDelete l) (refusal wrongType 1)) ≡ ok m → Accepts m
 type-case true t l m e = event-accepted l m e

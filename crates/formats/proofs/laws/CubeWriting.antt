@@ -61,7 +61,7 @@ module _ (names t : List ℕ) (room : ℕ) where
         pub put-delete-clear : barred 3 13 14 t ≡ 0 → writeMessage (delete names t) room ≡ ok (68 ∷ 69 ∷ (names ++ t))
         put-delete-clear e = put-delete (text-barred ∙ e)
 
-two-placed : (l : List ℕ) (a b : ℕ) → 2 ≤ length l → set (set l 0 a) 1 b ≡ placed 0 (a ∷ b ∷ []) l
+pub two-placed : (l : List ℕ) (a b : ℕ) → 2 ≤ length l → set (set l 0 a) 1 b ≡ placed 0 (a ∷ b ∷ []) l
 two-placed l a b h =
     set-placed 1 (set l 0 a) b (omega (arith, length-set l 0 a))
     ∙ ap (placed 1 (b ∷ [])) (set-placed 0 l a (omega arith))

@@ -1,0 +1,151 @@
+-- What a CUBE record's bytes keep: one encoding for each record, what is written reads back to the same bytes, and the
+-- column of a refusal is one of the line's.
+use mathlib.Core.Path.{_≡_, refl, sym, ap, _∙_, subst}
+use mathlib.Core.Bool.{Bool, true, false}
+use mathlib.Core.List.{List, [], _∷_, _++_}
+use Prim.Native.Nat.{ℕ, _+_, _≤_}
+use native.Mathlib.Omega.{arith}
+use lib.ListN.{length, take, drop, getD, length-drop, length-take, length-append}
+use lib.Dec.{eqb, ltb}
+use lib.Seq.{length-take-le}
+use borrow.Author.Tests.{ltb-false}
+use Rattle.columns.specs.Answer.{pick, Answer, ok, refusal, badForm, barredByte}
+use Rattle.columns.specs.Bytes.{barred}
+use Rattle.columns.specs.Column.{Rec, good, widths}
+use Rattle.columns.specs.Reading.{readColumns}
+use Rattle.columns.specs.Writing.{writeColumns}
+use Rattle.columns.proofs.laws.Answers.{passed, held}
+use Rattle.columns.proofs.laws.Bounds.{columnOf, pick-bound, barred-bound, read-bound, write-bound}
+use Rattle.formats.specs.Check.{checkCharacter}
+use Rattle.formats.specs.Cube.{Message, delete, eventColumns, unless, differs, asEvent, lowestBarred, isType, readEvent, readDelete, readLine, sealedAnswer, writeMessage}
+use Rattle.formats.specs.Record.{sameBytes, slotsIn}
+use Rattle.formats.specs.CubeRecord.{recordSize, recordOf, eventIn, deleteIn, messageIn, readRecord, recordAnswer, readInto, lineAnswer, writeFrom}
+use Rattle.formats.proofs.laws.Record.{same-is, numbers-length}
+use Rattle.formats.proofs.laws.CubeBack.{event-back, delete-back}
+use Rattle.formats.proofs.laws.CubeRecord.{into-read}
+
+-- ---- one encoding
+
+pub record Was (r : List ℕ) (m : Message) : Type 0 where
+  pub bytes : take 268 r ≡ recordOf m
+  pub named : messageIn (take 268 r) ≡ m
+  pub long : 268 ≤ length r
+
+-- bytes that are a record of m are the record of m
+pub record-one : (r : List ℕ) (m : Message) → readRecord r ≡ ok m → Was r m
+unfolding readRecord
+record-one r m e =
+    let p = passed (ltb (length r) recordSize) badForm 0 (pick (sameBytes (recordOf (messageIn (take 268 r))) (take 268 r)) (ok (messageIn (take 268 r))) (refusal badForm 0)) m e in
+    let q = held (sameBytes (recordOf (messageIn (take 268 r))) (take 268 r)) badForm 0 (ok (messageIn (take 268 r))) m (p .1) in
+    let n : messageIn (take 268 r) ≡ m = cc (q .1) in
+    record { bytes = sym (same-is (recordOf (messageIn (take 268 r))) (take 268 r) (q .0)) ∙ ap recordOf n; named = n; long = ltb-false (length r) 268 (p .0) }
+
+-- ---- what is written reads back
+
+module _ (r : List ℕ) (h : length r ≡ 268) (ys : List ℕ) (room : ℕ) where
+  kind-case : (k : Bool) → writeMessage (pick k (eventIn r) (deleteIn r)) room ≡ ok ys → readLine ys ≡ ok (pick k (eventIn r) (deleteIn r))
+  kind-case true e =
+      event-back (slotsIn 19 (drop 1 r) (drop 20 r)) (take 13 (drop 172 r)) ys room (numbers-length 19 (drop 1 r) (drop 20 r)) (length-take-le 13 (drop 172 r) (omega (arith, length-drop 172 r))) e
+  kind-case false e =
+      delete-back (take 11 (drop 2 r)) (take (getD r 1 0) (drop 13 r)) ys room (length-take-le 11 (drop 2 r) (omega (arith, length-drop 2 r))) e
+
+record Through (a : Answer Message) (room : ℕ) (ys : List ℕ) : Type 0 where
+  value : Message
+  is : a ≡ ok value
+  wrote : writeMessage value room ≡ ok ys
+
+through : (a : Answer Message) (room : ℕ) (ys : List ℕ) → lineAnswer a room ≡ ok ys → Through a room ys
+through (ok m) room ys e = record { value = m; is = refl; wrote = e }
+through (refusal n k) room ys e = let z : _≡_ {A = ℕ} 0 1 = cc in let y : ⊥ = omega arith in absurd y
+
+-- a record that is written reads back to the same bytes
+pub from-back : (r ys : List ℕ) (room : ℕ) → writeFrom r room ≡ ok ys → readInto ys 268 ≡ ok (take 268 r)
+unfolding writeFrom
+from-back r ys room e =
+    let t = through (readRecord r) room ys e in
+    let w = record-one r (t .value) (t .is) in
+    let n : length (take 268 r) ≡ 268 = length-take-le 268 r (w .long) in
+    let k : writeMessage (messageIn (take 268 r)) room ≡ ok ys = ap (λ (m : Message). writeMessage m room) (w .named) ∙ t .wrote in
+    let b : readLine ys ≡ ok (messageIn (take 268 r)) = kind-case (take 268 r) n ys room (eqb (getD (take 268 r) 0 0) 1) k in
+    into-read ys 268 (omega arith) ∙ ap recordAnswer (b ∙ ap ok (w .named)) ∙ ap ok (sym (w .bytes))
+
+-- ---- the column of a refusal
+
+as-event : (a : Answer Rec) → columnOf a ≤ 80 → columnOf (asEvent a) ≤ 80
+as-event (ok r) h = h
+as-event (refusal n k) h = h
+
+event-bound : (l : List ℕ) → columnOf (readEvent l) ≤ 80
+unfolding readEvent good widths
+event-bound l =
+    let n : length (take 79 l) ≤ 79 = omega (arith, length-take 79 l) in
+    let b : lowestBarred (take 79 l) ≤ 80 = omega (arith, barred-bound 3 13 0 (take 79 l)) in
+    let c : columnOf (asEvent (readColumns eventColumns [] 2 (drop 2 l))) ≤ 80 = as-event (readColumns eventColumns [] 2 (drop 2 l)) (omega (arith, read-bound eventColumns [] 2 (drop 2 l) tt)) in
+    pick-bound 80 (differs (length l) 80) _ _ (omega arith)
+    (pick-bound 80 (differs (lowestBarred (take 79 l)) 0) _ _ b (pick-bound 80 (differs (getD l 79 0) (checkCharacter (take 79 l))) _ _ (omega arith) c))
+
+long-case : (t : Bool) (l : List ℕ) (x : Answer Message) → ltb 80 (length l) ≡ t → (length l ≤ 80 → columnOf x ≤ 80) → columnOf (unless t 1 0 x) ≤ 80
+long-case true l x e f = omega arith
+long-case false l x e f = f (ltb-false 80 (length l) e)
+
+delete-bound : (l : List ℕ) → columnOf (readDelete l) ≤ 80
+unfolding readDelete
+delete-bound l =
+    pick-bound 80 (ltb (length l) 13) _ _ (omega arith)
+    (long-case (ltb 80 (length l)) l _ refl
+    (λ h. pick-bound 80 (differs (lowestBarred l) 0) (refusal barredByte (lowestBarred l)) (ok (delete (take 11 (drop 2 l)) (drop 13 l))) (omega (arith, barred-bound 3 13 0 l)) (omega arith)))
+
+line-bound : (l : List ℕ) → columnOf (readLine l) ≤ 80
+unfolding readLine
+line-bound l =
+    pick-bound 80 (ltb (length l) 2) _ _ (omega arith)
+    (pick-bound 80 (isType 69 32 l) _ _ (event-bound l) (pick-bound 80 (isType 68 69 l) _ _ (delete-bound l) (omega arith)))
+
+as-record : (a : Answer Message) → columnOf a ≤ 80 → columnOf (recordAnswer a) ≤ 80
+as-record (ok m) h = h
+as-record (refusal n k) h = h
+
+pub into-bound : (l : List ℕ) (room : ℕ) → columnOf (readInto l room) ≤ 80
+unfolding readInto
+into-bound l room = pick-bound 80 (ltb room recordSize) _ _ (omega arith) (as-record (readLine l) (line-bound l))
+
+as-sealed : (a : Answer (List ℕ)) → columnOf a ≤ 80 → columnOf (sealedAnswer a) ≤ 80
+as-sealed (ok ys) h = h
+as-sealed (refusal n k) h = h
+
+text-case : (t : Bool) (s : List ℕ) (x : Answer (List ℕ)) → ltb 67 (length s) ≡ t → (length s ≤ 67 → columnOf x ≤ 80) → columnOf (unless t 1 0 x) ≤ 80
+text-case true s x e f = omega arith
+text-case false s x e f = f (ltb-false 67 (length s) e)
+
+module _ (r : List ℕ) (room : ℕ) where
+  written-bound : (k : Bool) → columnOf (writeMessage (pick k (eventIn r) (deleteIn r)) room) ≤ 80
+  unfolding writeMessage good widths
+  written-bound true =
+      let a : columnOf (writeColumns eventColumns [] 2 (slotsIn 19 (drop 1 r) (drop 20 r)) (take 13 (drop 172 r))) ≤ 80 = omega (arith, write-bound eventColumns [] 2 (slotsIn 19 (drop 1 r) (drop 20 r)) (take 13 (drop 172 r)) tt) in
+      pick-bound 80 (ltb room 80) _ _ (omega arith) (as-sealed (writeColumns eventColumns [] 2 (slotsIn 19 (drop 1 r) (drop 20 r)) (take 13 (drop 172 r))) a)
+  written-bound false =
+      let s : List ℕ = take (getD r 1 0) (drop 13 r) in
+      let l : List ℕ = take 11 (drop 2 r) ++ take (getD r 1 0) (drop 13 r) in
+      text-case (ltb 67 (length (take (getD r 1 0) (drop 13 r)))) (take (getD r 1 0) (drop 13 r)) _ refl
+      (λ h. pick-bound 80 (ltb room (13 + length (take (getD r 1 0) (drop 13 r)))) _ _ (omega arith)
+      (pick-bound 80 (differs (barred 3 13 3 l) 0) (refusal barredByte (barred 3 13 3 l)) (ok (68 ∷ 69 ∷ l)) (omega (arith, barred-bound 3 13 2 l, length-append (take 11 (drop 2 r)) (take (getD r 1 0) (drop 13 r)), length-take 11 (drop 2 r), h)) (omega arith)))
+
+-- bytes that are no record are refused at column 0
+none-case : (t u : Bool) (m : Message) (n k : ℕ) → unless t badForm 0 (pick u (ok m) (refusal badForm 0)) ≡ refusal n k → k ≡ 0
+none-case true u m n k e = cc
+none-case false true m n k e = let z : _≡_ {A = ℕ} 0 1 = cc in let y : ⊥ = omega arith in absurd y
+none-case false false m n k e = cc
+
+none-bound : (r : List ℕ) (n k : ℕ) → readRecord r ≡ refusal n k → k ≤ 80
+unfolding readRecord
+none-bound r n k e = omega (arith, none-case (ltb (length r) recordSize) (sameBytes (recordOf (messageIn (take 268 r))) (take 268 r)) (messageIn (take 268 r)) n k e)
+
+pub from-bound : (r : List ℕ) (room : ℕ) → columnOf (writeFrom r room) ≤ 80
+unfolding writeFrom
+from-bound r room = by-record (readRecord r) refl
+  where
+    by-record : (a : Answer Message) → readRecord r ≡ a → columnOf (lineAnswer a room) ≤ 80
+    by-record (ok m) e =
+        let w = record-one r m e in
+        subst (λ (x : Message). columnOf (writeMessage x room) ≤ 80) (w .named) (written-bound (take 268 r) room (eqb (getD (take 268 r) 0 0) 1))
+    by-record (refusal n k) e = none-bound r n k e

@@ -1,0 +1,269 @@
+-- Laws of a record's bytes: a number in bytes, the loops that write and read them, and their parts.
+use mathlib.Core.Path.{_≡_, refl, sym, ap, _∙_}
+use mathlib.Core.Bool.{Bool, true, false}
+use mathlib.Core.List.{List, [], _∷_, _++_, append-assoc, append-nil}
+use Prim.Native.Nat.{ℕ, zero, suc, _+_, _-_, _*_, _/_, _%_, _^_, _≤_, _<_}
+use native.Mathlib.Nat.{pow-suc, pow-le-pow-right}
+use native.Mathlib.Numerals.{add-one}
+use native.Mathlib.Omega.{arith}
+use lib.ListN.{length, take, drop, getD, set, length-set, length-append, drop-of-length-le}
+use lib.Seq.{drop-cons, getD-set-same, drop-set-lt, drop-length, drop-drop, take-suc, take-all, length-take-le, getD-drop}
+use lib.Dec.{ltb, eqb, lit<}
+use lib.IntN.{ℤ, pos, negsuc, natAbs, _-ℤ_}
+use lib.Signed.{ltZ}
+use mir.Syntax.{w64}
+use mir.Val.{SFits, toZ, ofZ}
+use mir.ValLaws.{toZ-ofZ, toZ-pos}
+use borrow.Author.Tests.{ltb-true, lt-ltb, le-ltb, eq-eqb, ne-eqb, eqb-true}
+use borrow.Rule.Slice.PartMut.{putMid, midOf, mid-len}
+use Rattle.columns.specs.Answer.{pick}
+use Rattle.columns.specs.Column.{Slot, missing, given}
+use Rattle.columns.specs.Table.{slotOf, flagOf, valueOf, flagsOf, valuesOf, over, placed}
+use Rattle.columns.proofs.laws.Places.{placed-length, placed-placed, part-placed, set-placed}
+use Rattle.columns.proofs.laws.Table.{flags-length, values-length, flags-append, values-append}
+use Rattle.columns.proofs.laws.Answers.{over-whole}
+use Rattle.formats.specs.Record.{wordBytes, wordOf, patternOf, signedOf, allOnes, topBit, valueBytes, packed, slotsIn, sameBytes}
+
+-- ---- a number in bytes, written from the right
+
+drop-set-at : (l : List ℕ) (k b : ℕ) → k < length l → drop k (set l k b) ≡ b ∷ drop (suc k) l
+drop-set-at l k b h =
+    drop-cons (set l k b) k 0 (omega (arith, length-set l k b))
+    ∙ rw (getD-set-same l k b 0 h, drop-set-lt (suc k) l k b (omega arith))
+
+pub word-turn : (l : List ℕ) (i m : ℕ) → 0 < i → i ≤ length l → wordBytes i m ++ drop i l ≡ wordBytes (i - 1) (m / 256) ++ drop (i - 1) (set l (i - 1) (m % 256))
+unfolding wordBytes
+word-turn l zero m h k = let y : ⊥ = omega arith in absurd y
+word-turn l (suc i) m h k =
+    let z : suc i - 1 ≡ i = omega arith in
+    rw (z, append-assoc, drop-set-at l i (m % 256) (omega arith))
+
+pub word-start : (l : List ℕ) (n : ℕ) → wordBytes (length l) n ≡ wordBytes (length l) n ++ drop (length l) l
+word-start l n = rw (drop-length l, append-nil)
+
+pub word-end : (l : List ℕ) (i m : ℕ) → i ≤ 0 → wordBytes i m ++ drop i l ≡ l
+unfolding wordBytes
+word-end l i m h = let e : i ≡ 0 = omega arith in rw e
+
+pub word-length : (w n : ℕ) → length (wordBytes w n) ≡ w
+unfolding wordBytes
+word-length zero n = refl
+word-length (suc w) n = length-append (wordBytes w (n / 256)) ((n % 256) ∷ []) ∙ omega (arith, word-length w (n / 256))
+
+-- ---- a number in bytes, read from the left
+
+module _ (l : List ℕ) (i : ℕ) where
+  pub word-more : (n : ℕ) → i < length l → wordOf n (drop i l) ≡ wordOf (n * 256 + getD l i 0) (drop (i + 1) l)
+  unfolding wordOf
+  word-more n h = rw (drop-cons l i 0 h, add-one)
+
+  pub word-none : (n : ℕ) → length l ≤ i → wordOf n (drop i l) ≡ n
+  unfolding wordOf
+  word-none n h = rw (drop-of-length-le l {i = i} h)
+
+-- the number so far leaves room for the bytes to come
+pub word-room : (n b i : ℕ) → b < 256 → n < 256 ^ i → n * 256 + b < 256 ^ (i + 1)
+word-room n b i h k = rw (add-one, pow-suc) (omega arith)
+
+pub word-low : (i : ℕ) → i < 8 → 256 ^ (i + 1) ≤ 256 ^ 8
+word-low i h = let k : i + 1 ≤ 8 = omega arith in pow-le-pow-right {n = 256} (lit< tt) k
+
+-- ---- signs
+
+pub record Pattern (v : ℤ) : Type 0 where
+  pub low : 1 ≤ natAbs v
+  pub high : natAbs v ≤ topBit
+  pub is : allOnes - (natAbs v - 1) ≡ patternOf v
+
+pub pattern-neg : (v : ℤ) → SFits w64 v → ltZ (toZ w64 (ofZ w64 v)) (pos 0) ≡ true → Pattern v
+pattern-neg (pos n) s t =
+    let e : ltb n 0 ≡ true = rw (toZ-ofZ w64 (pos n) s) at t in
+    let y : ⊥ = omega (arith, ltb-true n 0 e) in absurd y
+pattern-neg (negsuc n) s t =
+    let h : n < 2 ^ 63 = s .sfits in
+    let z : suc n - 1 ≡ n = omega arith in
+    record { low = omega arith; high = omega arith; is = rw z }
+
+pub pattern-pos : (v : ℤ) → SFits w64 v → ltZ (toZ w64 (ofZ w64 v)) (pos 0) ≡ false → natAbs v ≡ patternOf v
+pattern-pos (pos n) s t = refl
+pattern-pos (negsuc n) s t =
+    let e : true ≡ false = rw (toZ-ofZ w64 (negsuc n) s) at t in
+    let z : _≡_ {A = ℕ} 0 1 = cc in let y : ⊥ = omega arith in absurd y
+
+pub signed-low : (u : ℕ) → u < topBit → toZ w64 u ≡ signedOf u
+signed-low u h = toZ-pos w64 u h ∙ rw (lt-ltb u topBit h)
+
+one-less : (n : ℕ) → negsuc 0 -ℤ pos n ≡ negsuc n
+one-less zero = refl
+one-less (suc n) = let z : 0 + n ≡ n = omega arith in ap (λ (x : ℕ). negsuc (suc x)) z
+
+module _ (u : ℕ) (h : topBit ≤ u) (k : u ≤ allOnes) where
+  less-is : negsuc 0 -ℤ toZ w64 (allOnes - u) ≡ negsuc (allOnes - u)
+  less-is = ap (λ (x : ℤ). negsuc 0 -ℤ x) (toZ-pos w64 (allOnes - u) (omega arith)) ∙ one-less (allOnes - u)
+
+  less-fits : SFits w64 (negsuc (allOnes - u))
+  less-fits = record { sfits = omega arith }
+
+  pub signed-fits : SFits w64 (negsuc 0 -ℤ toZ w64 (allOnes - u))
+  signed-fits = rw less-is less-fits
+
+  pub signed-high : toZ w64 (ofZ w64 (negsuc 0 -ℤ toZ w64 (allOnes - u))) ≡ signedOf u
+  signed-high = rw (less-is, toZ-ofZ w64 (negsuc (allOnes - u)) less-fits, le-ltb u topBit h)
+
+-- ---- equal bytes
+
+not-first : (t x : Bool) → x ≡ false → pick t x false ≡ false
+not-first true x e = e
+not-first false x e = refl
+
+pub same-length : (a b : List ℕ) → (length a ≡ length b → ⊥) → sameBytes a b ≡ false
+unfolding sameBytes
+same-length [] [] n = let y : ⊥ = n refl in absurd y
+same-length [] (y ∷ b) n = refl
+same-length (x ∷ a) [] n = refl
+same-length (x ∷ a) (y ∷ b) n = not-first (eqb x y) (sameBytes a b) (same-length a b (λ e. n (ap suc e)))
+
+module _ (a b : List ℕ) where
+  module _ (i : ℕ) where
+    pub same-end : length a ≤ i → length b ≤ i → sameBytes (drop i a) (drop i b) ≡ true
+    unfolding sameBytes
+    same-end h k = rw (drop-of-length-le a {i = i} h, drop-of-length-le b {i = i} k)
+
+    module _ (h : i < length a) (k : i < length b) where
+      pub same-more : getD a i 0 ≡ getD b i 0 → sameBytes (drop i a) (drop i b) ≡ sameBytes (drop (i + 1) a) (drop (i + 1) b)
+      unfolding sameBytes
+      same-more e = rw (drop-cons a i 0 h, drop-cons b i 0 k, add-one, eq-eqb (getD a i 0) (getD b i 0) e)
+
+      pub same-other : (getD a i 0 ≡ getD b i 0 → ⊥) → sameBytes (drop i a) (drop i b) ≡ false
+      unfolding sameBytes
+      same-other n = rw (drop-cons a i 0 h, drop-cons b i 0 k, ne-eqb (getD a i 0) (getD b i 0) n)
+
+first-same : (x y : ℕ) (t u : Bool) → eqb x y ≡ t → pick t u false ≡ true → (x ≡ y) × (u ≡ true)
+first-same x y true u e p = (eqb-true x y e, p)
+first-same x y false u e p = let z : _≡_ {A = ℕ} 0 1 = cc in let y : ⊥ = omega arith in absurd y
+
+-- what is equal byte for byte is one list
+pub same-is : (a b : List ℕ) → sameBytes a b ≡ true → a ≡ b
+unfolding sameBytes
+same-is [] [] e = refl
+same-is [] (y ∷ b) e = let z : _≡_ {A = ℕ} 0 1 = cc in let y : ⊥ = omega arith in absurd y
+same-is (x ∷ a) [] e = let z : _≡_ {A = ℕ} 0 1 = cc in let y : ⊥ = omega arith in absurd y
+same-is (x ∷ a) (y ∷ b) e =
+    let p = first-same x y (eqb x y) (sameBytes a b) refl e in
+    rw (p .0, same-is a b (p .1))
+
+pub same-self : (a : List ℕ) → sameBytes a a ≡ true
+unfolding sameBytes
+same-self [] = refl
+same-self (x ∷ a) = rw (eq-eqb x x refl) (same-self a)
+
+-- ---- the bytes of values
+
+pub bytes-append : (a b : List ℤ) → valueBytes (a ++ b) ≡ valueBytes a ++ valueBytes b
+unfolding valueBytes
+bytes-append [] b = refl
+bytes-append (v ∷ a) b = rw (bytes-append a b, append-assoc)
+
+pub bytes-length : (vs : List ℤ) → length (valueBytes vs) ≡ 8 * length vs
+unfolding valueBytes
+bytes-length [] = refl
+bytes-length (v ∷ vs) = length-append (wordBytes 8 (patternOf v)) (valueBytes vs) ∙ omega (arith, word-length 8 (patternOf v), bytes-length vs)
+
+bytes-one : (v : ℤ) → valueBytes (v ∷ []) ≡ wordBytes 8 (patternOf v)
+unfolding valueBytes
+bytes-one v = append-nil (wordBytes 8 (patternOf v))
+
+bytes-more : (vs : List ℤ) (i : ℕ) → i < length vs → valueBytes (take (i + 1) vs) ≡ valueBytes (take i vs) ++ wordBytes 8 (patternOf (getD vs i (pos 0)))
+bytes-more vs i h =
+    let e : take (i + 1) vs ≡ take i vs ++ (getD vs i (pos 0) ∷ []) = rw add-one (take-suc vs i (pos 0) h) in
+    ap valueBytes e ∙ bytes-append (take i vs) (getD vs i (pos 0) ∷ []) ∙ rw (bytes-one (getD vs i (pos 0)))
+
+-- a value more, after the first i
+pub values-turn : (vs : List ℤ) (l out ys : List ℕ) (i at : ℕ) (n : ℕ) → i < length vs → 8 * length vs ≤ length l → at ≡ 8 * i → out ≡ over (valueBytes (take i vs)) l → n ≡ patternOf (getD vs i (pos 0)) → ys ≡ wordBytes (length (midOf at (at + 8 - at) out)) n → putMid at (at + 8 - at) out ys ≡ over (valueBytes (take (i + 1) vs)) l
+values-turn vs l out ys i at n h k e q p r =
+    let b : length (valueBytes (take i vs)) ≡ at = bytes-length (take i vs) ∙ omega (arith, length-take-le i vs (omega arith)) in
+    let o : length out ≡ length l = ap length q ∙ placed-length 0 (valueBytes (take i vs)) l (omega arith) in
+    let m : length (midOf at (at + 8 - at) out) ≡ 8 = mid-len at (at + 8) out (omega arith) ∙ omega arith in
+    let y : ys ≡ wordBytes 8 (patternOf (getD vs i (pos 0))) = r ∙ rw (m, p) in
+    let w : length ys ≡ 8 = ap length y ∙ word-length 8 (patternOf (getD vs i (pos 0))) in
+    let z : at ≡ 0 + length (valueBytes (take i vs)) = omega arith in
+    part-placed at (at + 8) ys out (omega arith)
+    ∙ ap (placed at ys) q
+    ∙ placed-placed 0 at (valueBytes (take i vs)) ys l z (omega arith)
+    ∙ ap (λ (x : List ℕ). over x l) (ap (λ (x : List ℕ). valueBytes (take i vs) ++ x) y ∙ sym (bytes-more vs i h))
+
+pub values-end : (vs : List ℤ) (l out : List ℕ) (i : ℕ) → i ≤ length vs → length vs ≤ i → out ≡ over (valueBytes (take i vs)) l → out ≡ over (valueBytes vs) l
+values-end vs l out i h k q = q ∙ ap (λ (x : List ℤ). over (valueBytes x) l) (take-all i vs k)
+
+-- ---- a whole record, part by part
+
+pub packed-length : (kind : ℕ) (fs : List ℕ) (vs : List ℤ) (t : List ℕ) → length (packed kind fs vs t) ≡ 1 + length fs + 8 * length vs + length t
+packed-length kind fs vs t = omega (arith, length-append fs (valueBytes vs ++ t), length-append (valueBytes vs) t, bytes-length vs)
+
+module _ (kind : ℕ) (fs : List ℕ) (vs : List ℤ) (t l : List ℕ) (h : 1 + length fs + 8 * length vs + length t ≤ length l) where
+  pub packed-parts : placed (1 + length fs + 8 * length vs) t (placed (1 + length fs) (valueBytes vs) (placed 1 fs (set l 0 kind))) ≡ over (packed kind fs vs t) l
+  packed-parts =
+      let b : length (valueBytes vs) ≡ 8 * length vs = bytes-length vs in
+      let m : 1 + length fs + 8 * length vs ≡ 0 + length (kind ∷ fs ++ valueBytes vs) = omega (arith, length-append fs (valueBytes vs)) in
+      let f : 1 + length fs ≡ 0 + length (kind ∷ fs) = omega arith in
+      let e : (kind ∷ fs ++ valueBytes vs) ++ t ≡ packed kind fs vs t = rw append-assoc in
+      ap (λ (x : List ℕ). placed (1 + length fs + 8 * length vs) t (placed (1 + length fs) (valueBytes vs) (placed 1 fs x))) (set-placed 0 l kind (omega arith))
+      ∙ ap (λ (x : List ℕ). placed (1 + length fs + 8 * length vs) t (placed (1 + length fs) (valueBytes vs) x)) (placed-placed 0 1 (kind ∷ []) fs l refl (omega arith))
+      ∙ ap (placed (1 + length fs + 8 * length vs) t) (placed-placed 0 (1 + length fs) (kind ∷ fs) (valueBytes vs) l f (omega arith))
+      ∙ placed-placed 0 (1 + length fs + 8 * length vs) (kind ∷ fs ++ valueBytes vs) t l m (omega arith)
+      ∙ ap (λ (x : List ℕ). over x l) e
+
+-- ---- numbers, from their flags and bytes
+
+pub numbers-more : (i : ℕ) (fs s : List ℕ) → slotsIn (i + 1) fs s ≡ slotsIn i fs s ++ slotOf (getD fs i 0) (signedOf (wordOf 0 (take 8 (drop (8 * i) s)))) ∷ []
+unfolding slotsIn
+numbers-more zero fs s = refl
+numbers-more (suc i) fs s =
+    let z : suc i + 1 ≡ suc (i + 1) = omega arith in
+    let n : 8 + 8 * i ≡ 8 * suc i = omega arith in
+    let o : 1 + i ≡ suc i = omega arith in
+    rw (z, numbers-more i (drop 1 fs) (drop 8 s), getD-drop 1 fs i 0, drop-drop (8 * i) 8 s, n, o)
+
+pub numbers-length : (i : ℕ) (fs s : List ℕ) → length (slotsIn i fs s) ≡ i
+unfolding slotsIn
+numbers-length zero fs s = refl
+numbers-length (suc i) fs s = ap suc (numbers-length i (drop 1 fs) (drop 8 s))
+
+set-over : {A : Type 0} (xs l out : List A) (x : A) (i : ℕ) → length xs ≡ i → i < length l → out ≡ over xs l → set out i x ≡ over (xs ++ x ∷ []) l
+set-over xs l out x i n h e =
+    let k : length out ≡ length l = ap length e ∙ placed-length 0 xs l (omega arith) in
+    let z : i ≡ 0 + length xs = omega arith in
+    set-placed i out x (omega arith) ∙ ap (placed i (x ∷ [])) e ∙ placed-placed 0 i xs (x ∷ []) l z (omega arith)
+
+-- the slot that a flag and a value stand for
+pub flag-is : (f : ℕ) (u v : ℤ) → flagOf (slotOf f u) ≡ flagOf (slotOf f v)
+flag-is f u v = by-test (eqb f 0)
+  where
+    by-test : (t : Bool) → flagOf (pick t missing (given u)) ≡ flagOf (pick t missing (given v))
+    by-test true = refl
+    by-test false = refl
+
+module _ (i at : ℕ) (fs s : List ℕ) (a : at ≡ 8 * i) where
+  abbrev next : Slot
+  next = slotOf (getD fs i 0) (signedOf (wordOf 0 (take 8 (drop (8 * i) s))))
+
+  pub flags-turn : (l out : List ℕ) (x : ℕ) → i < length l → out ≡ over (flagsOf (slotsIn i fs s)) l → x ≡ flagOf (slotOf (getD fs i 0) (pos 0)) → set out i x ≡ over (flagsOf (slotsIn (i + 1) fs s)) l
+  unfolding flagsOf
+  flags-turn l out x h e p =
+      let n : length (flagsOf (slotsIn i fs s)) ≡ i = flags-length (slotsIn i fs s) ∙ numbers-length i fs s in
+      let q : x ≡ flagOf next = p ∙ flag-is (getD fs i 0) (pos 0) (signedOf (wordOf 0 (take 8 (drop (8 * i) s)))) in
+      set-over (flagsOf (slotsIn i fs s)) l out x i n h e
+      ∙ ap (λ (y : List ℕ). over y l) (ap (λ (y : ℕ). flagsOf (slotsIn i fs s) ++ y ∷ []) q ∙ sym (ap flagsOf (numbers-more i fs s) ∙ flags-append (slotsIn i fs s) (next ∷ [])))
+
+  pub values-more : (l out : List ℤ) (x : ℤ) (u : ℕ) → i < length l → out ≡ over (valuesOf (slotsIn i fs s)) l → u ≡ wordOf 0 (take (at + 8 - at) (drop at s)) → x ≡ valueOf (slotOf (getD fs i 0) (signedOf u)) → set out i x ≡ over (valuesOf (slotsIn (i + 1) fs s)) l
+  unfolding valuesOf
+  values-more l out x u h e p q =
+      let n : length (valuesOf (slotsIn i fs s)) ≡ i = values-length (slotsIn i fs s) ∙ numbers-length i fs s in
+      let z : at + 8 - at ≡ 8 = omega arith in
+      let w : u ≡ wordOf 0 (take 8 (drop (8 * i) s)) = p ∙ rw (z, a) in
+      let r : x ≡ valueOf next = q ∙ ap (λ (y : ℕ). valueOf (slotOf (getD fs i 0) (signedOf y))) w in
+      set-over (valuesOf (slotsIn i fs s)) l out x i n h e
+      ∙ ap (λ (y : List ℤ). over y l) (ap (λ (y : ℤ). valuesOf (slotsIn i fs s) ++ y ∷ []) r ∙ sym (ap valuesOf (numbers-more i fs s) ∙ values-append (slotsIn i fs s) (next ∷ [])))
+
+pub numbers-end : {A : Type 0} (xs l out : List A) → length xs ≡ length l → out ≡ over xs l → out ≡ xs
+numbers-end xs l out n e = e ∙ over-whole xs l n

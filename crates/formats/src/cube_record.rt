@@ -1,0 +1,130 @@
+// CUBE records as bytes: lines read into them and written from them.
+use super::Reply;
+use super::cube::Read;
+use super::cube::read_line;
+use super::cube::write_delete;
+use super::cube::write_event;
+use super::record::get_numbers;
+use super::record::pack;
+use super::record::same;
+use columns::Outcome;
+use columns::bytes::copy;
+ghost use mathlib.Core.Path.{_≡_};
+ghost use mathlib.Core.List.{_∷_};
+ghost use Prim.Native.Nat.{_+_, _≤_};
+ghost use lib.ListN.{length, take, getD};
+ghost use Rattle.columns.specs.Table.{over, slotsOf};
+ghost use Rattle.formats.specs.Record.{packed, Replied, replied};
+ghost use Rattle.formats.specs.CubeRecord.{filled, readInto, writeFrom};
+
+// The bytes of a record of either kind.
+pub const RECORD: usize = 268;
+
+const EVENT: u8 = 1;
+
+const DELETE: u8 = 2;
+
+fn event_bytes(flags: &[u8; 19], values: &[i64; 19], text: &[u8]) -> [u8; 268]
+    requires { ⌜ length (now text) ≡ 13 ⌝ }
+    ensures { λ r. ⌜ r ≡ filled (packed 1 (now (flags .entry)) (now (values .entry)) (now (text .entry))) ⌝ }
+{
+    let mut bytes = [0u8; 268];
+    pack(&mut bytes, EVENT, flags, values, text);
+    bytes
+}
+
+// `chars` are the names, 11 bytes, and the text.
+fn delete_bytes(len: u8, chars: &[u8]) -> [u8; 268]
+    requires { ⌜ length (now chars) ≤ 266 ⌝ }
+    ensures { λ r. ⌜ r ≡ filled (2 ∷ len ∷ now (chars .entry)) ⌝ }
+{
+    let mut bytes = [0u8; 268];
+    bytes[0] = DELETE;
+    bytes[1] = len;
+    let end = 2 + chars.len();
+    copy(&mut bytes[2..end], chars);
+    bytes
+}
+
+// A CUBE line read into a record, over the first bytes of `out`. Nothing is changed where it is refused.
+pub fn read_into(line: &[u8], out: &mut [u8]) -> Reply
+    ensures { λ r. ⌜ Replied (readInto (now (line .entry)) (length (now (out .entry)))) r (now (out .entry)) (now (out .exit)) ⌝ }
+{
+    if out.len() < RECORD {
+        return Reply::Refused(columns::SHORT, 0);
+    }
+    let got = read_line(line);
+    let read = got.read;
+    let flags = got.flags;
+    let values = got.values;
+    let text = got.text;
+    match read {
+        Read::Refused(number, column) => Reply::Refused(number, column),
+        Read::Event => {
+            let bytes = event_bytes(&flags, &values, &text[0..13]);
+            copy(out, &bytes);
+            Reply::Done(RECORD)
+        }
+        Read::Delete(len) => {
+            let end = 11 + len;
+            let bytes = delete_bytes(len as u8, &text[0..end]);
+            copy(out, &bytes);
+            Reply::Done(RECORD)
+        }
+    }
+}
+
+fn reply_of(r: Outcome, len: usize) -> Reply
+    ensures { λ o. ⌜ o ≡ replied r len ⌝ }
+{
+    match r {
+        Outcome::Done => Reply::Done(len),
+        Outcome::Refused(number, column) => Reply::Refused(number, column),
+    }
+}
+
+// The line of an event's record, of exactly 268 bytes.
+fn write_event_from(from: &[u8], out: &mut [u8]) -> Reply
+    requires { ⌜ (length (now from) ≡ 268) × (getD (now from) 0 0 ≡ 1) ⌝ }
+    ensures { λ r. ⌜ Replied (writeFrom (now (from .entry)) (length (now (out .entry)))) r (now (out .entry)) (now (out .exit)) ⌝ }
+{
+    let mut flags = [0u8; 19];
+    let mut values = [0i64; 19];
+    let mut text = [0u8; 13];
+    get_numbers(&from[1..268], &from[20..268], &mut flags, &mut values);
+    copy(&mut text, &from[172..185]);
+    let bytes = event_bytes(&flags, &values, &text);
+    if same(&bytes, from) {
+        return reply_of(write_event(&flags, &values, &text, out), 80);
+    }
+    Reply::Refused(columns::FORM, 0)
+}
+
+// The line of a delete's record, of exactly 268 bytes, with a text of `len` bytes.
+fn write_delete_from(from: &[u8], len: u8, out: &mut [u8]) -> Reply
+    requires { ⌜ (length (now from) ≡ 268) × ((getD (now from) 0 0 ≡ 1 → ⊥) × (getD (now from) 1 0 ≡ len)) ⌝ }
+    ensures { λ r. ⌜ Replied (writeFrom (now (from .entry)) (length (now (out .entry)))) r (now (out .entry)) (now (out .exit)) ⌝ }
+{
+    let end = 13 + (len as usize);
+    let bytes = delete_bytes(len, &from[2..end]);
+    if same(&bytes, from) {
+        let mut names = [0u8; 11];
+        copy(&mut names, &from[2..13]);
+        return reply_of(write_delete(&names, &from[13..end], out), end);
+    }
+    Reply::Refused(columns::FORM, 0)
+}
+
+// A CUBE line written from a record, over the first bytes of `out`. Nothing is changed where it is refused.
+pub fn write_from(from: &[u8], out: &mut [u8]) -> Reply
+    ensures { λ r. ⌜ Replied (writeFrom (now (from .entry)) (length (now (out .entry)))) r (now (out .entry)) (now (out .exit)) ⌝ }
+{
+    if from.len() < RECORD {
+        return Reply::Refused(columns::FORM, 0);
+    }
+    if from[0] == EVENT {
+        return write_event_from(&from[0..268], out);
+    }
+    let len = from[1];
+    write_delete_from(&from[0..268], len, out)
+}
