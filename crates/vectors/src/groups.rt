@@ -1,0 +1,124 @@
+// Groups of lines made from one line, each compared by both readers. A line lies in 90 bytes, with blanks after it.
+use super::compare::Counts;
+use super::compare::compare;
+use super::second::check_character;
+ghost use Prim.Native.Nat.{_+_, _≤_, _<_};
+
+// Compares the first `length` bytes.
+fn compare_first(c: Counts, line: &[u8; 90], length: usize) -> Counts
+    requires { ⌜ length ≤ 90 ⌝ }
+{
+    let all = &line[..];
+    compare(c, &all[0..length])
+}
+
+// Every byte at one place of a line of `length` bytes.
+fn bytes_at(start: Counts, line: [u8; 90], length: usize, at: usize) -> Counts
+    requires { ⌜ (length ≤ 90) × (at < 90) ⌝ }
+{
+    let mut c = start;
+    let mut changed = line;
+    let mut byte: usize = 0;
+    while byte < 256 {
+        changed[at] = byte as u8;
+        c = compare_first(c, &changed, length);
+        byte += 1;
+    }
+    c
+}
+
+// Every byte at every place of a line of `length` bytes.
+pub fn changed(start: Counts, line: [u8; 90], length: usize) -> Counts
+    requires { ⌜ length ≤ 90 ⌝ }
+{
+    let mut c = start;
+    let mut at = 0;
+    while at < length {
+        c = bytes_at(c, line, length, at);
+        at += 1;
+    }
+    c
+}
+
+// Compares a line of 80 bytes after putting in the right check character.
+fn compare_checked(c: Counts, line: [u8; 90]) -> Counts {
+    let mut whole = line;
+    whole[79] = check_character(&line[0..79]);
+    compare_first(c, &whole, 80)
+}
+
+fn checked_bytes_at(start: Counts, line: [u8; 90], at: usize) -> Counts
+    requires { ⌜ at < 90 ⌝ }
+{
+    let mut c = start;
+    let mut changed = line;
+    let mut byte: usize = 0;
+    while byte < 256 {
+        changed[at] = byte as u8;
+        c = compare_checked(c, changed);
+        byte += 1;
+    }
+    c
+}
+
+// Every byte at every place of columns 1 to 79, with the check character that is then right.
+pub fn changed_checked(start: Counts, line: [u8; 90]) -> Counts {
+    let mut c = start;
+    let mut at = 0;
+    while at < 79 {
+        c = checked_bytes_at(c, line, at);
+        at += 1;
+    }
+    c
+}
+
+// The line cut or filled with blanks to each length from 0 to 90.
+pub fn lengths(start: Counts, line: [u8; 90]) -> Counts {
+    let mut c = start;
+    let mut length = 0;
+    while length < 91 {
+        c = compare_first(c, &line, length);
+        length += 1;
+    }
+    c
+}
+
+// Each run of 2 to 8 columns that starts at one place, given `first` and then `rest` in the other columns.
+fn runs_at(start: Counts, line: [u8; 90], at: usize, first: u8, rest: u8) -> Counts
+    requires { ⌜ at < 78 ⌝ }
+{
+    let mut c = start;
+    let mut filled = line;
+    filled[at] = first;
+    let mut i = at + 1;
+    while i < 79 {
+        if at + 7 < i {
+            return c;
+        }
+        filled[i] = rest;
+        c = compare_checked(c, filled);
+        i += 1;
+    }
+    c
+}
+
+fn runs(start: Counts, line: [u8; 90], first: u8, rest: u8) -> Counts {
+    let mut c = start;
+    let mut at = 2;
+    while at < 78 {
+        c = runs_at(c, line, at, first, rest);
+        at += 1;
+    }
+    c
+}
+
+// Runs of columns from 3 to 79 that are blank, all one digit, or a minus with digits, with the check character that is
+// then right: so whole fields are missing, at an end of their columns' range, or of bad form.
+pub fn filled(start: Counts, line: [u8; 90]) -> Counts {
+    let c = runs(start, line, b' ', b' ');
+    let c = runs(c, line, b'0', b'0');
+    let c = runs(c, line, b'9', b'9');
+    let c = runs(c, line, b'-', b'0');
+    let c = runs(c, line, b'-', b'9');
+    runs(c, line, b' ', b'1')
+}
