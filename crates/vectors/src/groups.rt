@@ -122,3 +122,62 @@ pub fn filled(start: Counts, line: [u8; 90]) -> Counts {
     let c = runs(c, line, b'-', b'9');
     runs(c, line, b' ', b'1')
 }
+
+fn digit_byte(n: u64) -> u8 {
+    48 + ((n % 10) as u8)
+}
+
+// A number in the columns from `first` to `last`, with zeros before it.
+fn with_number(line: [u8; 90], first: usize, last: usize, n: u64) -> [u8; 90]
+    requires { ⌜ (1 ≤ first) × (first ≤ last) × (last ≤ 80) ⌝ }
+{
+    let mut out = line;
+    let mut left = n;
+    let mut i = last;
+    while first <= i {
+        i -= 1;
+        out[i] = digit_byte(left);
+        left = left / 10;
+    }
+    out
+}
+
+// The numbers about `middle` in one field, each also with a minus in its first column.
+fn about(start: Counts, line: [u8; 90], first: usize, last: usize, middle: u64) -> Counts
+    requires { ⌜ (1 ≤ first) × (first ≤ last) × (last ≤ 80) × (2 ≤ middle) × (middle < 100000000) ⌝ }
+{
+    let mut c = start;
+    let mut n = middle - 2;
+    while n < middle + 3 {
+        let mut out = with_number(line, first, last, n);
+        c = compare_checked(c, out);
+        out[first - 1] = b'-';
+        c = compare_checked(c, out);
+        n += 1;
+    }
+    c
+}
+
+// About the ends of the ranges of year, month and day.
+fn date_ends(start: Counts, line: [u8; 90]) -> Counts {
+    let c = about(start, line, 14, 17, 999);
+    let c = about(c, line, 14, 17, 6070);
+    let c = about(c, line, 18, 19, 2);
+    let c = about(c, line, 18, 19, 12);
+    let c = about(c, line, 20, 21, 2);
+    about(c, line, 20, 21, 31)
+}
+
+// About the ends of the ranges of hour, minute, second, latitude and longitude.
+fn time_and_place_ends(start: Counts, line: [u8; 90]) -> Counts {
+    let c = about(start, line, 22, 23, 23);
+    let c = about(c, line, 24, 25, 59);
+    let c = about(c, line, 26, 28, 599);
+    let c = about(c, line, 29, 35, 900000);
+    about(c, line, 36, 43, 1800000)
+}
+
+// Numbers about the ends of the ranges that document 01 names, with the check character that is then right.
+pub fn range_ends(start: Counts, line: [u8; 90]) -> Counts {
+    time_and_place_ends(date_ends(start, line), line)
+}

@@ -29,6 +29,11 @@ fn show(line: [u8; 90]) {
     say(&line[0..80]);
     say(b"\n");
     let r = compare::as_reading(formats::cube::read_line(&line[0..80]));
+    say(b"answer ");
+    say_count(r.answer as u64);
+    say(b"\ncolumn ");
+    say_count(r.column as u64);
+    say(b"\n");
     say_event(r);
 }
 
@@ -67,6 +72,8 @@ fn events(start: Counts, line: [u8; 90]) -> Counts {
     let c = close(b"  one byte changed, check right", c);
     let c = groups::filled(c, line);
     let c = close(b"  columns filled, check right", c);
+    let c = groups::range_ends(c, line);
+    let c = close(b"  ends of ranges, check right", c);
     let c = groups::lengths(c, line);
     close(b"  lengths 0 to 90", c)
 }

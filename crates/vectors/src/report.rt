@@ -36,41 +36,54 @@ fn say_text(name: &[u8], text: &[u8; 78], from: usize, end: usize)
     say(b"\n");
 }
 
-fn say_number(name: &[u8], flag: u8, v: i64) {
-    say(name);
+fn say_name(slot: usize) {
+    match slot {
+        0 => say(b"year"),
+        1 => say(b"month"),
+        2 => say(b"day"),
+        3 => say(b"hour"),
+        4 => say(b"minute"),
+        5 => say(b"second"),
+        6 => say(b"latitude"),
+        7 => say(b"longitude"),
+        8 => say(b"depth"),
+        9 => say(b"magnitude"),
+        10 => say(b"stations"),
+        11 => say(b"phases"),
+        12 => say(b"nearest station"),
+        13 => say(b"rms"),
+        14 => say(b"horizontal error"),
+        15 => say(b"vertical error"),
+        16 => say(b"gap"),
+        17 => say(b"magnitude stations"),
+        _ => say(b"magnitude error"),
+    }
+}
+
+// A number, or `-` for one that is missing.
+fn say_number(flag: u8, v: i64) {
     if flag == 0 {
-        say(b" -\n");
+        say(b"-");
         return;
     }
-    say(b" ");
     if v < 0 {
         say(b"-");
     }
     say_count(columns::written::magnitude_of(v));
-    say(b"\n");
 }
 
-fn say_origin(flags: &[u8; 19], values: &[i64; 19]) {
-    say_number(b"year", flags[0], values[0]);
-    say_number(b"month", flags[1], values[1]);
-    say_number(b"day", flags[2], values[2]);
-    say_number(b"hour", flags[3], values[3]);
-    say_number(b"minute", flags[4], values[4]);
-    say_number(b"second", flags[5], values[5]);
-    say_number(b"latitude", flags[6], values[6]);
-    say_number(b"longitude", flags[7], values[7]);
-    say_number(b"depth", flags[8], values[8]);
-    say_number(b"magnitude", flags[9], values[9]);
-}
-
-fn say_quality(flags: &[u8; 19], values: &[i64; 19]) {
-    say_number(b"stations", flags[10], values[10]);
-    say_number(b"phases", flags[11], values[11]);
-    say_number(b"nearest station", flags[12], values[12]);
-    say_number(b"rms", flags[13], values[13]);
-    say_number(b"horizontal error", flags[14], values[14]);
-    say_number(b"vertical error", flags[15], values[15]);
-    say_number(b"gap", flags[16], values[16]);
+// The numbers of a record from one place to another, by name.
+fn say_numbers(flags: &[u8; 19], values: &[i64; 19], from: usize, end: usize)
+    requires { ⌜ (from ≤ end) × (end ≤ 19) ⌝ }
+{
+    let mut i = from;
+    while i < end {
+        say_name(i);
+        say(b" ");
+        say_number(flags[i], values[i]);
+        say(b"\n");
+        i += 1;
+    }
 }
 
 // An event's values in the order of their columns.
@@ -78,18 +91,11 @@ pub fn say_event(r: Reading) {
     let flags = r.flags;
     let values = r.values;
     let text = r.text;
-    say(b"answer ");
-    say_count(r.answer as u64);
-    say(b"\ncolumn ");
-    say_count(r.column as u64);
-    say(b"\n");
     say_text(b"identifier", &text, 0, 8);
     say_text(b"source", &text, 8, 10);
     say_text(b"version", &text, 10, 11);
-    say_origin(&flags, &values);
-    say_quality(&flags, &values);
+    say_numbers(&flags, &values, 0, 17);
     say_text(b"magnitude letter", &text, 11, 12);
-    say_number(b"magnitude stations", flags[17], values[17]);
-    say_number(b"magnitude error", flags[18], values[18]);
+    say_numbers(&flags, &values, 17, 19);
     say_text(b"method", &text, 12, 13);
 }
