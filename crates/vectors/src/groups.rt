@@ -83,8 +83,8 @@ pub fn lengths(start: Counts, line: [u8; 90]) -> Counts {
     c
 }
 
-// Each run of 2 to 8 columns that starts at one place, given `first` and then `rest` in the other columns.
-fn runs_at(start: Counts, line: [u8; 90], at: usize, first: u8, rest: u8) -> Counts
+// Each run of 2 to 8 columns that starts at one place, given `first`, then `rest`, and `end` in its last column.
+fn runs_at(start: Counts, line: [u8; 90], at: usize, first: u8, rest: u8, end: u8) -> Counts
     requires { ⌜ at < 78 ⌝ }
 {
     let mut c = start;
@@ -95,32 +95,33 @@ fn runs_at(start: Counts, line: [u8; 90], at: usize, first: u8, rest: u8) -> Cou
         if at + 7 < i {
             return c;
         }
-        filled[i] = rest;
+        filled[i] = end;
         c = compare_checked(c, filled);
+        filled[i] = rest;
         i += 1;
     }
     c
 }
 
-fn runs(start: Counts, line: [u8; 90], first: u8, rest: u8) -> Counts {
+fn runs(start: Counts, line: [u8; 90], first: u8, rest: u8, end: u8) -> Counts {
     let mut c = start;
     let mut at = 2;
     while at < 78 {
-        c = runs_at(c, line, at, first, rest);
+        c = runs_at(c, line, at, first, rest, end);
         at += 1;
     }
     c
 }
 
-// Runs of columns from 3 to 79 that are blank, all one digit, or a minus with digits, with the check character that is
-// then right: so whole fields are missing, at an end of their columns' range, or of bad form.
+// Runs of columns from 3 to 79 that are blank, or hold a number at or next to an end of what they can hold, or minus
+// zero, with the check character that is then right.
 pub fn filled(start: Counts, line: [u8; 90]) -> Counts {
-    let c = runs(start, line, b' ', b' ');
-    let c = runs(c, line, b'0', b'0');
-    let c = runs(c, line, b'9', b'9');
-    let c = runs(c, line, b'-', b'0');
-    let c = runs(c, line, b'-', b'9');
-    runs(c, line, b' ', b'1')
+    let c = runs(start, line, b' ', b' ', b' ');
+    let c = runs(c, line, b'9', b'9', b'9');
+    let c = runs(c, line, b'-', b'9', b'9');
+    let c = runs(c, line, b'-', b'0', b'0');
+    let c = runs(c, line, b'-', b'0', b'1');
+    runs(c, line, b' ', b' ', b'1')
 }
 
 fn digit_byte(n: u64) -> u8 {

@@ -4,10 +4,10 @@ use Rattle.vectors.proofs.groups.runs.Statement.{statement}
 use Rattle.vectors.proofs.groups.runs.Tie as tie
 
 abbrev Inv-loop : tie.InvT-loop
-Inv-loop line first rest c₀ at₀ c at = at ≤ 78
+Inv-loop line first rest end c₀ at₀ c at = at ≤ 78
 
 abbrev μ-loop : tie.MeasureT-loop
-μ-loop line first rest c₀ at₀ c at = 78 - at
+μ-loop line first rest end c₀ at₀ c at = 78 - at
 
 loop-holds : tie.Need-loop-holds Inv-loop μ-loop
 loop-holds c = search needs

@@ -6,10 +6,10 @@ use Rattle.vectors.proofs.groups.runs_at.Statement.{statement}
 use Rattle.vectors.proofs.groups.runs_at.Tie as tie
 
 abbrev Inv-loop : tie.InvT-loop
-Inv-loop at first rest c₀ filled₀ i₀ c filled i = (i ≤ 79) × (length filled ≡ 90)
+Inv-loop at first rest end c₀ filled₀ i₀ c filled i = (i ≤ 79) × (length filled ≡ 90)
 
 abbrev μ-loop : tie.MeasureT-loop
-μ-loop at first rest c₀ filled₀ i₀ c filled i = 79 - i
+μ-loop at first rest end c₀ filled₀ i₀ c filled i = 79 - i
 
 array-write-filled : tie.Need-array-write-filled Inv-loop μ-loop
 array-write-filled c = search needs
@@ -31,6 +31,9 @@ array-write-filled-2 c = search needs
 
 compare-checked-requires : tie.Need-compare-checked-requires Inv-loop μ-loop
 compare-checked-requires c κs = search needs
+
+array-write-filled-3 : tie.Need-array-write-filled-3 Inv-loop μ-loop
+array-write-filled-3 c = search needs
 
 add-i-2 : tie.Need-add-i-2 Inv-loop μ-loop
 add-i-2 c = search needs
@@ -57,6 +60,7 @@ runs-at-spec =
     returns
     array-write-filled-2
     compare-checked-requires
+    array-write-filled-3
     add-i-2
     loop-less
     loop-again
