@@ -10,8 +10,8 @@ use mir.Syntax.{w64}
 use mir.Val.{SFits, toZ}
 use mir.ValLaws.{toZ-pos}
 use Rattle.vectors.specs.Digits.{EightPlaces}
-use Rattle.vectors.specs.declared.second.Digits.{Digits}
-use Rattle.vectors.specs.declared.second.Digits.the-variants.{Value}
+use Rattle.vectors.specs.declared.second.number.Digits.{Digits}
+use Rattle.vectors.specs.declared.second.number.Digits.the-variants.{Value}
 
 pub one-more-digit : (v d k : ℕ) → v < 10 ^ k → d ≤ 9 → v * 10 + d < 10 ^ (k + 1)
 one-more-digit v d k h e = rw add-one (omega (arith, pow-suc 10 k))

@@ -1,6 +1,5 @@
 use borrow.Author.Needs.{needs}
 use Prim.Native.Nat.{_≤_, _-_}
-use lib.ListN.{length}
 use Rattle.vectors.proofs.groups.changed.Statement.{statement}
 use Rattle.vectors.proofs.groups.changed.Tie as tie
 

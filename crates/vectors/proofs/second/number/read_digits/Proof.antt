@@ -2,8 +2,8 @@ use borrow.Author.Needs.{needs}
 use native.Mathlib.Omega.{arith}
 use Prim.Native.Nat.{_≤_, _<_, _-_, _^_}
 use Rattle.vectors.proofs.Digits.{one-more-digit, eight-places}
-use Rattle.vectors.proofs.second.read_digits.Statement.{statement}
-use Rattle.vectors.proofs.second.read_digits.Tie as tie
+use Rattle.vectors.proofs.second.number.read_digits.Statement.{statement}
+use Rattle.vectors.proofs.second.number.read_digits.Tie as tie
 
 abbrev Inv-loop : tie.InvT-loop
 Inv-loop line from end places value₀ i₀ value i = (i ≤ places) × (value < 10 ^ i)

@@ -1,7 +1,7 @@
 use borrow.Author.Needs.{needs}
 use Rattle.vectors.proofs.Digits.{value-fits, opposite-fits}
-use Rattle.vectors.proofs.second.read_number.Statement.{statement}
-use Rattle.vectors.proofs.second.read_number.Tie as tie
+use Rattle.vectors.proofs.second.number.read_number.Statement.{statement}
+use Rattle.vectors.proofs.second.number.read_number.Tie as tie
 
 sub-after-blanks : tie.Need-sub-after-blanks
 sub-after-blanks c = search needs

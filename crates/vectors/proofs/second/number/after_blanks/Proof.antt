@@ -1,7 +1,7 @@
 use borrow.Author.Needs.{needs}
 use Prim.Native.Nat.{_≤_, _-_}
-use Rattle.vectors.proofs.second.after_blanks.Statement.{statement}
-use Rattle.vectors.proofs.second.after_blanks.Tie as tie
+use Rattle.vectors.proofs.second.number.after_blanks.Statement.{statement}
+use Rattle.vectors.proofs.second.number.after_blanks.Tie as tie
 
 abbrev Inv-loop : tie.InvT-loop
 Inv-loop line from end i₀ i = (from ≤ i) × (i ≤ end)
