@@ -1,0 +1,171 @@
+// The library's reader and the second one held against each other on one line.
+use super::report::say;
+use super::report::say_bytes;
+use super::report::say_count;
+use super::second::DELETE;
+use super::second::EVENT;
+use super::second::NONE;
+use super::second::Reading;
+use formats::cube::LineRead;
+use formats::cube::Read;
+
+// Of a group of lines: on how many the readers agree and differ, and how many both accept. Of all lines: how many got
+// each answer of the library.
+pub struct Counts {
+    pub agree: u64,
+    pub differ: u64,
+    pub accepted: u64,
+    pub answers: [u64; 10],
+}
+
+pub fn no_counts() -> Counts {
+    let answers = [0u64; 10];
+    Counts {
+        agree: 0,
+        differ: 0,
+        accepted: 0,
+        answers,
+    }
+}
+
+fn one_more(n: u64) -> u64 {
+    std::num::wrapping_add_u64(n, 1)
+}
+
+fn same_bytes(a: &[u8], b: &[u8]) -> bool {
+    if a.len() != b.len() {
+        return false;
+    }
+    let mut i = 0;
+    while i < a.len() {
+        if a[i] != b[i] {
+            return false;
+        }
+        i += 1;
+    }
+    true
+}
+
+fn same_values(a: &[i64; 19], b: &[i64; 19]) -> bool {
+    let mut i = 0;
+    while i < 19 {
+        if a[i] != b[i] {
+            return false;
+        }
+        i += 1;
+    }
+    true
+}
+
+fn same_record(a: Reading, b: Reading) -> bool {
+    let flags = a.flags;
+    let values = a.values;
+    let text = a.text;
+    let other_flags = b.flags;
+    let other_values = b.values;
+    let other_text = b.text;
+    if !same_bytes(&flags, &other_flags) {
+        return false;
+    }
+    if !same_values(&values, &other_values) {
+        return false;
+    }
+    same_bytes(&text, &other_text)
+}
+
+fn same(a: Reading, b: Reading) -> bool {
+    if a.answer != b.answer {
+        return false;
+    }
+    if a.column != b.column {
+        return false;
+    }
+    if a.kind != b.kind {
+        return false;
+    }
+    if a.length != b.length {
+        return false;
+    }
+    same_record(a, b)
+}
+
+// The library's outcome in the second reader's form.
+pub fn as_reading(r: LineRead) -> Reading {
+    let read = r.read;
+    let flags = r.flags;
+    let values = r.values;
+    let text = r.text;
+    let mut out = Reading {
+        answer: 0,
+        column: 0,
+        kind: NONE,
+        length: 0,
+        flags,
+        values,
+        text,
+    };
+    match read {
+        Read::Event => {
+            out.kind = EVENT;
+        }
+        Read::Delete(length) => {
+            out.kind = DELETE;
+            out.length = length;
+        }
+        Read::Refused(answer, column) => {
+            out.answer = answer;
+            out.column = column;
+        }
+    }
+    out
+}
+
+fn say_difference(line: &[u8], a: Reading, b: Reading) {
+    say(b"differ on ");
+    say_bytes(line);
+    say(b"  library ");
+    say_count(a.answer as u64);
+    say(b" ");
+    say_count(a.column as u64);
+    say(b" second ");
+    say_count(b.answer as u64);
+    say(b" ");
+    say_count(b.column as u64);
+    say(b"\n");
+}
+
+// Counts the library's answer.
+fn count_answer(answer: u8, before: [u64; 10]) -> [u64; 10] {
+    let mut answers = before;
+    let n = answer as usize;
+    if n < 10 {
+        answers[n] = one_more(answers[n]);
+    }
+    answers
+}
+
+// Counts a line on which the readers agree.
+fn agreed(c: Counts, answer: u8) -> Counts {
+    let mut r = c;
+    r.agree = one_more(c.agree);
+    if answer == 0 {
+        r.accepted = one_more(c.accepted);
+    }
+    r
+}
+
+// Reads one line twice and counts the outcome; a difference is printed.
+pub fn compare(start: Counts, line: &[u8]) -> Counts {
+    let a = as_reading(formats::cube::read_line(line));
+    let b = super::second::read_line(line);
+    let mut c = start;
+    let before = c.answers;
+    let answers = count_answer(a.answer, before);
+    c.answers = answers;
+    if same(a, b) {
+        return agreed(c, a.answer);
+    }
+    say_difference(line, a, b);
+    c.differ = one_more(c.differ);
+    c
+}
