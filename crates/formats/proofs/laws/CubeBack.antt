@@ -96,6 +96,12 @@ delete-size names t ys room n e =
     let i : 68 ∷ 69 ∷ (names ++ t) ≡ ys = cc (r .1) in
     ap length (sym i) ∙ omega (arith, length-append names t)
 
+pub delete-low-size : (names t ys : List ℕ) (room : ℕ) → length names ≡ 11 → writeMessage (delete names t) room ≡ ok ys → length ys ≤ 80
+unfolding writeMessage
+delete-low-size names t ys room n e =
+    let p = passed (ltb 67 (length t)) wrongLength 0 (unless (ltb room (13 + length t)) tooShort 0 (unless (differs (barred 3 13 3 (names ++ t)) 0) barredByte (barred 3 13 3 (names ++ t)) (ok (68 ∷ 69 ∷ (names ++ t))))) ys e in
+    omega (arith, delete-size names t ys room n e, ltb-false 67 (length t) (p .0))
+
 pub delete-back : (names t ys : List ℕ) (room : ℕ) → length names ≡ 11 → writeMessage (delete names t) room ≡ ok ys → readLine ys ≡ ok (delete names t)
 unfolding writeMessage barred
 delete-back names t ys room n e =

@@ -9,7 +9,7 @@ use lib.ListN.{length, take, drop, getD, length-drop, length-take, length-append
 use lib.Dec.{eqb, ltb}
 use lib.Seq.{length-take-le}
 use borrow.Author.Tests.{ltb-false}
-use Rattle.columns.specs.Answer.{pick, Answer, ok, refusal, badForm, barredByte}
+use Rattle.columns.specs.Answer.{pick, Answer, ok, refusal, badForm, tooShort, barredByte}
 use Rattle.columns.specs.Bytes.{barred}
 use Rattle.columns.specs.Column.{Rec, good, widths}
 use Rattle.columns.specs.Reading.{readColumns}
@@ -17,12 +17,14 @@ use Rattle.columns.specs.Writing.{writeColumns}
 use Rattle.columns.proofs.laws.Answers.{passed, held}
 use Rattle.columns.proofs.laws.Bounds.{columnOf, pick-bound, barred-bound, read-bound, write-bound}
 use Rattle.formats.specs.Check.{checkCharacter}
-use Rattle.formats.specs.Cube.{Message, delete, eventColumns, unless, differs, asEvent, lowestBarred, isType, readEvent, readDelete, readLine, sealedAnswer, writeMessage}
-use Rattle.formats.specs.Record.{sameBytes, slotsIn}
+use Rattle.formats.specs.Cube.{Message, event, delete, eventColumns, unless, differs, asEvent, lowestBarred, isType, readEvent, readDelete, readLine, sealedAnswer, writeMessage}
+use Rattle.formats.specs.Record.{packed, sameBytes, slotsIn}
+use Rattle.columns.specs.Table.{flagsOf, valuesOf}
+use Rattle.columns.proofs.laws.Table.{flags-length, values-length}
 use Rattle.formats.specs.CubeRecord.{recordSize, recordOf, eventIn, deleteIn, messageIn, readRecord, recordAnswer, readInto, lineAnswer, writeFrom}
-use Rattle.formats.proofs.laws.Record.{same-is, numbers-length}
-use Rattle.formats.proofs.laws.CubeBack.{event-back, delete-back}
-use Rattle.formats.proofs.laws.CubeRecord.{into-read}
+use Rattle.formats.proofs.laws.Record.{same-is, numbers-length, packed-length}
+use Rattle.formats.proofs.laws.CubeBack.{event-back, delete-back, Sized, line-accepted, event-size, delete-low-size}
+use Rattle.formats.proofs.laws.CubeRecord.{into-read, filled-length}
 
 -- ---- one encoding
 
@@ -149,3 +151,49 @@ from-bound r room = by-record (readRecord r) refl
         let w = record-one r m e in
         subst (λ (x : Message). columnOf (writeMessage x room) ≤ 80) (w .named) (written-bound (take 268 r) room (eqb (getD (take 268 r) 0 0) 1))
     by-record (refusal n k) e = none-bound r n k e
+
+-- ---- the number of bytes written
+
+record-size : (m : Message) → Sized m → length (recordOf m) ≡ 268
+record-size (event ns t) s =
+    filled-length (packed 1 (flagsOf ns) (valuesOf ns) t) (omega (arith, packed-length 1 (flagsOf ns) (valuesOf ns) t, flags-length ns, values-length ns, s .0, s .1))
+record-size (delete names t) s = filled-length (2 ∷ length t ∷ (names ++ t)) (omega (arith, length-append names t, s .0, s .1))
+
+-- the bytes written, where there are some
+abbrev pub sizeOf : Answer (List ℕ) → ℕ
+sizeOf (ok ys) = length ys
+sizeOf (refusal n k) = 0
+
+pub into-size : (l : List ℕ) (room : ℕ) → sizeOf (readInto l room) ≤ 268
+unfolding readInto
+into-size l room = by-test (ltb room recordSize)
+  where
+    by-line : (a : Answer Message) → readLine l ≡ a → sizeOf (recordAnswer a) ≤ 268
+    by-line (ok m) e = omega (arith, record-size m (line-accepted l m e .sized))
+    by-line (refusal n k) e = omega arith
+
+    by-test : (t : Bool) → sizeOf (unless t tooShort 0 (recordAnswer (readLine l))) ≤ 268
+    by-test true = omega arith
+    by-test false = by-line (readLine l) refl
+
+module _ (r : List ℕ) (h : length r ≡ 268) (room : ℕ) where
+  line-size : (k : Bool) (ys : List ℕ) → writeMessage (pick k (eventIn r) (deleteIn r)) room ≡ ok ys → length ys ≤ 80
+  line-size true ys e =
+      omega (arith, event-size (slotsIn 19 (drop 1 r) (drop 20 r)) (take 13 (drop 172 r)) ys room (numbers-length 19 (drop 1 r) (drop 20 r)) (length-take-le 13 (drop 172 r) (omega (arith, length-drop 172 r))) e)
+  line-size false ys e =
+      omega (arith, delete-low-size (take 11 (drop 2 r)) (take (getD r 1 0) (drop 13 r)) ys room (length-take-le 11 (drop 2 r) (omega (arith, length-drop 2 r))) e)
+
+written-size : (r : List ℕ) (room : ℕ) (ys : List ℕ) → writeFrom r room ≡ ok ys → length ys ≤ 80
+unfolding writeFrom
+written-size r room ys e =
+    let t = through (readRecord r) room ys e in
+    let w = record-one r (t .value) (t .is) in
+    let n : length (take 268 r) ≡ 268 = length-take-le 268 r (w .long) in
+    line-size (take 268 r) n room (eqb (getD (take 268 r) 0 0) 1) ys (ap (λ (m : Message). writeMessage m room) (w .named) ∙ t .wrote)
+
+pub from-size : (r : List ℕ) (room : ℕ) → sizeOf (writeFrom r room) ≤ 80
+from-size r room = by-answer (writeFrom r room) refl
+  where
+    by-answer : (a : Answer (List ℕ)) → writeFrom r room ≡ a → sizeOf a ≤ 80
+    by-answer (ok ys) e = written-size r room ys e
+    by-answer (refusal n k) e = omega arith

@@ -1,0 +1,33 @@
+-- The one number that a call returns: answer, column and length in fixed parts. include/rotmibel.h
+use mathlib.Core.Path.{_≡_}
+use mathlib.Core.List.{List}
+use Prim.Native.Nat.{ℕ, _+_, _*_, _<_}
+use lib.ListN.{length}
+use Rattle.columns.specs.Answer.{Answer, ok, refusal}
+use Rattle.columns.specs.Table.{laid}
+use Rattle.formats.specs.declared.Reply.{Reply}
+use Rattle.formats.specs.declared.Reply.the-variants as R
+
+-- the answer in the lowest 8 bits, the column in the next 16, the length in the 24 after them
+abbrev pub parts : ℕ → ℕ → ℕ → ℕ
+parts answer column len = answer + 256 * column + 16777216 * len
+
+-- 0 with the number of bytes written, or a refusal with its column
+abbrev pub numberOf : Answer (List ℕ) → ℕ
+numberOf (ok ys) = parts 0 0 (length ys)
+numberOf (refusal n k) = parts n k 0
+
+-- the same, of a reply as the code has it
+abbrev pub numberIn : Reply → ℕ
+numberIn (R.Done len) = parts 0 0 len
+numberIn (R.Refused n k) = parts n k 0
+
+-- a reply whose length and column fit their parts
+abbrev pub small : Reply → Type 0
+small (R.Done len) = len < 16777216
+small (R.Refused n k) = k < 65536
+
+-- what a call returns, and the lent bytes: what was written over the first of them, or nothing changed
+pub record Answered (a : Answer (List ℕ)) (r : ℕ) (from to : List ℕ) : Type 0 where
+  pub answer : r ≡ numberOf a
+  pub bytes : to ≡ laid a from

@@ -1,0 +1,112 @@
+/*
+ * rotmibel: seismic notices read, written and kept, every call proved for all input.
+ *
+ * A line is bytes and a length, with no newline and no NUL at its end. A record is a fixed number of bytes laid out as
+ * docs/RECORDS.md says; equal records are equal bytes, so memcmp compares them.
+ *
+ * WHAT A CALLER OWES. Nothing here can check it: a pointer is good for the length given with it; a buffer that is written does not
+ * overlap another that is lent in the same call. A NULL pointer with length 0 is fine. Calls keep no state and allocate nothing, so
+ * any number of them may run at once on buffers of their own.
+ *
+ * WHAT EVERY CALL RETURNS: one number in three parts.
+ *   bits  0 to  7   the answer, ROTMIBEL_READ or one of the refusals below
+ *   bits  8 to 23   the column of a refusal, from 1; 0 where the refusal names none
+ *   bits 24 to 47   the number of bytes written to the lent buffer, 0 after a refusal
+ * After a refusal nothing lent has changed. Otherwise only the bytes written have.
+ */
+#ifndef ROTMIBEL_H
+#define ROTMIBEL_H
+
+#include <stddef.h>
+#include <stdint.h>
+
+#ifdef __cplusplus
+extern "C" {
+#endif
+
+/* The parts of what a call returns. */
+#define ROTMIBEL_ANSWER(r) ((unsigned)((r) & 0xff))
+#define ROTMIBEL_COLUMN(r) ((unsigned)(((r) >> 8) & 0xffff))
+#define ROTMIBEL_LENGTH(r) ((size_t)(((r) >> 24) & 0xffffff))
+
+/* Answers. */
+#define ROTMIBEL_READ 0      /* read or written */
+#define ROTMIBEL_BAD_LENGTH 1 /* the line's length, or a delete's text of more than 67 bytes; column 0 */
+#define ROTMIBEL_BARRED 2    /* a byte that may not stand in its column; that column */
+#define ROTMIBEL_TYPE 3      /* neither `E ` nor `DE`; column 1 */
+#define ROTMIBEL_REQUIRED 5  /* a required field is blank or missing; its first column */
+#define ROTMIBEL_FORM 6      /* a field of bad form, its first column; or bytes that are no record, column 0 */
+#define ROTMIBEL_RANGE 7     /* a number out of its range; the field's first column */
+#define ROTMIBEL_CHECK 9     /* the check character; column 80 */
+#define ROTMIBEL_WIDE 10     /* a number too wide for its field when written; the field's first column */
+#define ROTMIBEL_SHORT 11    /* the lent buffer is too short; column 0 */
+
+/* Sizes: a record of either kind, the longest CUBE line. */
+#define ROTMIBEL_RECORD 268
+#define ROTMIBEL_LINE 80
+
+/* Kinds, a record's first byte. */
+#define ROTMIBEL_EVENT 1
+#define ROTMIBEL_DELETE 2
+
+/*
+ * Read a CUBE line, `E ` or `DE`, into a record.
+ *
+ * line, line_len      the line
+ * record, record_len  where the record goes: at least ROTMIBEL_RECORD bytes, the first of which are written
+ *
+ * Answers, looked for in this order: SHORT (record_len, before the line is looked at); BAD_LENGTH (under 2 bytes); TYPE; BAD_LENGTH
+ * (not 80 bytes of E, not 13 to 80 of DE); BARRED (the lowest such column); CHECK (E); then the fields of E from left to right, each
+ * REQUIRED, FORM, RANGE; else READ, with length ROTMIBEL_RECORD.
+ */
+uint64_t rotmibel_read_line(const uint8_t *line, size_t line_len, uint8_t *record, size_t record_len);
+
+/*
+ * Write a record as a CUBE line. The check character of an E line is computed.
+ *
+ * record, record_len  the record: its first ROTMIBEL_RECORD bytes
+ * line, line_len      where the line goes: at least 80 bytes for an event, 13 and its text for a delete
+ *
+ * Answers, looked for in this order: FORM at column 0 (no record; also fewer bytes than one has); BAD_LENGTH (a delete's text of
+ * more than 67 bytes); SHORT; then the fields from left to right, each REQUIRED, BARRED, WIDE, RANGE; else READ, with the line's
+ * length. What is written reads back to the same record.
+ */
+uint64_t rotmibel_write_line(const uint8_t *record, size_t record_len, uint8_t *line, size_t line_len);
+
+/* Whether number `index` (from 0) of an event's record is there. */
+static inline int rotmibel_has_number(const uint8_t *record, unsigned index) { return record[1 + index] != 0; }
+
+/* Number `index` (from 0) of an event's record; 0 where it is missing. */
+static inline int64_t rotmibel_number(const uint8_t *record, unsigned index) {
+    uint64_t n = 0;
+    for (unsigned i = 0; i < 8; i++) n = n << 8 | record[20 + 8 * index + i];
+    return n >> 63 ? -(int64_t)(~n) - 1 : (int64_t)n;
+}
+
+/* The numbers of an event's record. Scaled as the columns are: seconds, kilometres and magnitudes by 10, rms by 100, degrees by
+   10,000; gap in percent of a circle. */
+enum rotmibel_event_number {
+    ROTMIBEL_YEAR, ROTMIBEL_MONTH, ROTMIBEL_DAY, ROTMIBEL_HOUR, ROTMIBEL_MINUTE, ROTMIBEL_SECOND, ROTMIBEL_LATITUDE,
+    ROTMIBEL_LONGITUDE, ROTMIBEL_DEPTH, ROTMIBEL_MAGNITUDE, ROTMIBEL_STATIONS, ROTMIBEL_PHASES, ROTMIBEL_NEAREST, ROTMIBEL_RMS,
+    ROTMIBEL_HORIZONTAL_ERROR, ROTMIBEL_VERTICAL_ERROR, ROTMIBEL_GAP, ROTMIBEL_MAGNITUDE_STATIONS, ROTMIBEL_MAGNITUDE_ERROR
+};
+
+/* Where the text of an event's record stands: identifier 8 bytes, source 2, version 1, magnitude letter 1, method 1. */
+#define ROTMIBEL_EVENT_IDENTIFIER 172
+#define ROTMIBEL_EVENT_SOURCE 180
+#define ROTMIBEL_EVENT_VERSION 182
+#define ROTMIBEL_EVENT_MAGNITUDE_LETTER 183
+#define ROTMIBEL_EVENT_METHOD 184
+
+/* Where the parts of a delete's record stand: the length of its text 1 byte, identifier 8, source 2, version 1, text. */
+#define ROTMIBEL_DELETE_TEXT_LENGTH 1
+#define ROTMIBEL_DELETE_IDENTIFIER 2
+#define ROTMIBEL_DELETE_SOURCE 10
+#define ROTMIBEL_DELETE_VERSION 12
+#define ROTMIBEL_DELETE_TEXT 13
+
+#ifdef __cplusplus
+}
+#endif
+
+#endif
