@@ -5,3 +5,4 @@ pub mod CubeBack
 pub mod Record
 pub mod CubeRecord
 pub mod CubeRecordBack
+pub mod CubeFields

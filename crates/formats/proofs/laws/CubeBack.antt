@@ -24,7 +24,7 @@ use Rattle.formats.proofs.laws.CubeWriting.{put-event, put-delete}
 
 -- ---- what an accepted record says
 
-differs-same : (a b : ℕ) → differs a b ≡ false → a ≡ b
+pub differs-same : (a b : ℕ) → differs a b ≡ false → a ≡ b
 differs-same a b e = by-test (eqb a b) refl e
   where
     by-test : (t : Bool) → eqb a b ≡ t → pick t false true ≡ false → a ≡ b
@@ -139,7 +139,7 @@ was-of (ok r) m e = record { value = r; read = refl; is = cc }
 was-of (refusal n k) m e = let z : _≡_ {A = ℕ} 0 1 = cc in let y : ⊥ = omega arith in absurd y
 
 -- nothing is barred after the type either
-after-type : (l s : List ℕ) → 2 ≤ length l → take 2 l ++ s ≡ l → lowestBarred l ≡ 0 → barred 3 13 3 s ≡ 0
+pub after-type : (l s : List ℕ) → 2 ≤ length l → take 2 l ++ s ≡ l → lowestBarred l ≡ 0 → barred 3 13 3 s ≡ 0
 after-type l s h e b =
     let n : length (take 2 l) ≡ 2 = length-take-le 2 l h in
     let p = barred-split 3 13 1 (take 2 l) s (omega arith) (ap (barred 3 13 1) e ∙ b) .1 in

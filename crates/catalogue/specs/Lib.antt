@@ -1,0 +1,9 @@
+pub mod Line
+pub mod Assoc
+pub mod Catalogue
+pub mod FromSet
+pub mod Lists
+pub mod Maxima
+pub mod Room
+pub mod Ordered
+pub mod Splice

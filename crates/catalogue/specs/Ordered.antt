@@ -1,0 +1,11 @@
+-- A room that is long enough and in order.
+use Prim.Native.Nat.{ℕ, _≤_}
+use mathlib.Core.Path.{_≡_}
+use mathlib.Core.Bool.{true}
+use mathlib.Core.List.{List}
+use lib.ListN.{length, take}
+use Rattle.catalogue.specs.Room.{inOrder}
+
+pub record Ordered (r : List ℕ) : Type 0 where
+  pub long : 46596 ≤ length r
+  pub fine : inOrder (take 46596 r) ≡ true

@@ -1,0 +1,94 @@
+-- A room: the bytes of a catalogue.
+use Rattle.columns.specs.Answer.{pick}
+use Rattle.columns.specs.Bytes.{barred}
+use Rattle.formats.specs.Record.{sameBytes}
+use Prim.Native.Nat.{ℕ, zero, suc, _+_, _*_, _-_, _/_, _%_}
+use mathlib.Core.Bool.{Bool, true, false, _&&_}
+use mathlib.Core.List.{List, [], _∷_, _++_}
+use mathlib.Core.Option.{Option, none, some}
+use lib.Dec.{ltb, leb, eqb}
+use lib.ListN.{length, take, drop, getD, replicate}
+use Rattle.catalogue.specs.Assoc.{find}
+use Rattle.catalogue.specs.Line.{Kind, event, delete, blank, refused, kind, version, key, deletionKey, deletionVersion}
+use Rattle.catalogue.specs.Catalogue.{Catalogue, named, step}
+
+-- a count in two bytes, high byte first, and back
+unfoldable pub count : ℕ → List ℕ
+count n = n / 256 ∷ n % 256 ∷ []
+
+unfoldable pub number : List ℕ → ℕ
+number r = getD r 0 0 * 256 + getD r 1 0
+
+unfoldable pub flat : List (List ℕ) → List ℕ
+flat [] = []
+flat (x ∷ xs) = x ++ flat xs
+
+-- n rows of w bytes
+unfoldable pub rows : ℕ → ℕ → List ℕ → List (List ℕ)
+rows zero w r = []
+rows (suc n) w r = take w r ∷ rows n w (drop w r)
+
+-- the sections, each after its count
+unfoldable pub sections : Catalogue → List ℕ
+sections c = count (length (c .held)) ++ (flat (c .held) ++ (count (length (c .deletions)) ++ flat (c .deletions)))
+
+-- the room's 46,596 bytes: the sections, then zeros
+unfoldable pub encode : Catalogue → List ℕ
+encode c = sections c ++ replicate (46596 - length (sections c)) 0
+
+-- what the room's bytes say, in order or not
+unfoldable pub afterHeld : List ℕ → List ℕ
+afterHeld r = drop (80 * number r) (drop 2 r)
+
+unfoldable pub contents : List ℕ → Catalogue
+contents r = record { held = rows (number r) 80 (drop 2 r); deletions = rows (number (afterHeld r)) 11 (drop 2 (afterHeld r)) }
+
+unfoldable pub ascends : {E : Type 0} (key : E → ℕ) → ℕ → List E → Bool
+ascends key b [] = true
+ascends key b (x ∷ xs) = leb b (key x) && ascends key (suc (key x)) xs
+
+unfoldable pub every : (List ℕ → Bool) → List (List ℕ) → Bool
+every p [] = true
+every p (x ∷ xs) = p x && every p xs
+
+unfoldable pub isEvent : Kind → Bool
+isEvent event = true
+isEvent delete = false
+isEvent blank = false
+isEvent refused = false
+
+unfoldable pub aboveDeletion : Option (List ℕ) → List ℕ → Bool
+aboveDeletion none h = true
+aboveDeletion (some d) h = ltb (deletionVersion d) (version h)
+
+-- a held line: acceptable, and above its pair's deletion
+unfoldable pub heldOk : List (List ℕ) → List ℕ → Bool
+heldOk deletions h = isEvent (kind h) && aboveDeletion (find deletionKey (key h) deletions) h
+
+unfoldable pub deletionOk : List ℕ → Bool
+deletionOk d = eqb (length d) 11 && eqb (barred 1 11 1 d) 0
+
+unfoldable pub good : Catalogue → Bool
+good c =
+    (ascends key 0 (c .held) && ascends deletionKey 0 (c .deletions)) && ((every (heldOk (c .deletions)) (c .held) && every deletionOk (c .deletions)) && leb (named c) 512)
+
+-- in order: the room is the layout of what it says, and that is good
+unfoldable pub inOrder : List ℕ → Bool
+inOrder r = good (contents r) && sameBytes (encode (contents r)) r
+
+-- a call's answer on a room and a line
+unfoldable pub answerOf : List ℕ → List ℕ → ℕ
+answerOf room line =
+    pick (leb 46596 (length room)) (pick (inOrder (take 46596 room)) (step (contents (take 46596 room)) line .answer) 13) 11
+
+-- the room after the call
+unfoldable pub roomAfter : List ℕ → List ℕ → List ℕ
+roomAfter room line =
+    pick (leb 46596 (length room))
+    (pick (inOrder (take 46596 room)) (encode (step (contents (take 46596 room)) line .after) ++ drop 46596 room) room)
+    room
+
+-- the lines one by one, each into the room as the last call left it
+unfoldable pub feed : List ℕ → List (List ℕ) → List ℕ
+feed room [] = room
+feed room (l ∷ ls) = feed (roomAfter room l) ls
