@@ -17,3 +17,5 @@ pub mod Feed
 pub mod Demand
 pub mod Lex
 pub mod Example
+pub mod Splicing
+pub mod Keys

@@ -7,3 +7,4 @@ pub mod Maxima
 pub mod Room
 pub mod Ordered
 pub mod Splice
+pub mod Rows
