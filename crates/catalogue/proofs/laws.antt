@@ -19,3 +19,14 @@ pub mod Lex
 pub mod Example
 pub mod Splicing
 pub mod Keys
+pub mod RoomBytes
+pub mod Keep
+pub mod View
+pub mod Decide
+pub mod Delete
+pub mod Event
+pub mod Moves
+pub mod RoomAt
+pub mod Sorts
+pub mod OrderRows
+pub mod InOrder

@@ -8,3 +8,5 @@ pub mod Room
 pub mod Ordered
 pub mod Splice
 pub mod Rows
+pub mod Plans
+pub mod Zeros

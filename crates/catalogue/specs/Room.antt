@@ -9,7 +9,9 @@ use mathlib.Core.Option.{Option, none, some}
 use lib.Dec.{ltb, leb, eqb}
 use lib.ListN.{length, take, drop, getD, replicate}
 use Rattle.catalogue.specs.Assoc.{find}
-use Rattle.catalogue.specs.Line.{Kind, event, delete, blank, refused, kind, version, key, deletionKey, deletionVersion}
+use Rattle.formats.specs.Cube.{readLine}
+use Rattle.catalogue.specs.declared.Call.{Call}
+use Rattle.catalogue.specs.Line.{refusedAt, Kind, event, delete, blank, refused, kind, version, key, deletionKey, deletionVersion}
 use Rattle.catalogue.specs.Catalogue.{Catalogue, named, step}
 
 -- a count in two bytes, high byte first, and back
@@ -80,6 +82,14 @@ inOrder r = good (contents r) && sameBytes (encode (contents r)) r
 unfoldable pub answerOf : List ℕ → List ℕ → ℕ
 answerOf room line =
     pick (leb 46596 (length room)) (pick (inOrder (take 46596 room)) (step (contents (take 46596 room)) line .answer) 13) 11
+
+-- the column answered: that of a refused line, where the line is looked at
+unfoldable pub columnOf : List ℕ → List ℕ → ℕ
+columnOf room line =
+    pick (leb 46596 (length room)) (pick (inOrder (take 46596 room)) (refusedAt (readLine line)) 0) 0
+
+abbrev pub callOf : List ℕ → List ℕ → Call
+callOf room line = record { number = answerOf room line; column = columnOf room line }
 
 -- the room after the call
 unfoldable pub roomAfter : List ℕ → List ℕ → List ℕ

@@ -1,6 +1,33 @@
 // The catalogue: one room of held E lines and deletions.
+pub mod order;
 pub mod rows;
 pub mod splice;
+pub mod take;
 
 // The bytes of a room.
 pub const ROOM: usize = 46596;
+
+// The numbers that the catalogue answers (document 01, "Numbers answered"): refusals, then what was taken.
+pub const FULL: u8 = 12;
+
+pub const DISORDER: u8 = 13;
+
+pub const STORED: u8 = 20;
+
+pub const REPLACED: u8 = 21;
+
+pub const REPEATED: u8 = 22;
+
+pub const OUTDATED: u8 = 23;
+
+pub const REMOVED: u8 = 24;
+
+pub const NOTED: u8 = 25;
+
+pub const NOTHING_HELD: u8 = 26;
+
+// What a call answers: a number, and the column of a refused line.
+pub struct Call {
+    pub number: u8,
+    pub column: usize,
+}

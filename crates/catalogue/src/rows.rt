@@ -25,7 +25,8 @@ pub fn word8(s: &[u8], at: usize) -> u64
     requires { ⌜ at + 8 ≤ length (now s) ⌝ }
     ensures { λ r. ⌜ (r ≡ eight (now (s .entry)) at) × (r < 18446744073709551616) ⌝ }
 {
-    ((word2(s, at) * 65536 + word2(s, at + 2)) * 65536 + word2(s, at + 4)) * 65536 + word2(s, at + 6)
+    ((word2(s, at) * 65536 + word2(s, at + 2)) * 65536 + word2(s, at + 4)) * 65536
+        + word2(s, at + 6)
 }
 
 // The row's key at `at` is below the given one.

@@ -43,8 +43,14 @@ unfolding rowKey wordOf eight
 row-key s at so h k =
     let l : length (drop at s) ≡ length s - at = length-drop at s in
     simp (drop-drop, first-two (drop (at + so) s) (simp length-drop (omega arith)), first-eight (drop (at + 2) s) (simp length-drop (omega arith)), getD-drop)
-    (omega (arith, same-at s (at + so + 0) (at + so) (omega arith), same-at s (at + 2 + 0) (at + 2) (omega arith), same-at s (at + 2 + 2 + 1) (at + 2 + 3) (omega arith),
-    same-at s (at + 2 + 4 + 1) (at + 2 + 5) (omega arith), same-at s (at + 2 + 6 + 1) (at + 2 + 7) (omega arith)))
+    (omega (
+      arith,
+      same-at s (at + so + 0) (at + so) (omega arith),
+      same-at s (at + 2 + 0) (at + 2) (omega arith),
+      same-at s (at + 2 + 2 + 1) (at + 2 + 3) (omega arith),
+      same-at s (at + 2 + 4 + 1) (at + 2 + 5) (omega arith),
+      same-at s (at + 2 + 6 + 1) (at + 2 + 7) (omega arith),
+    ))
 
 part-of-take : (a b w : ℕ) (r : List ℕ) → b + a ≤ w → take a (drop b (take w r)) ≡ take a (drop b r)
 part-of-take a zero w r h = take-take a w r (omega arith)
@@ -181,8 +187,8 @@ at-key s base w so n i wide inside fits h =
 -- two digits are the same where the numbers are
 pub digits-eq : (B a b x y : ℕ) → a * B + b ≡ x * B + y → b < B → y < B → (a ≡ x) × (b ≡ y)
 digits-eq B a b x y e hb hy =
-    elim (tri a x)
-    [ less h ↦ absurd (omega (arith, mul-le-mul-right B h))
-    | same h ↦ let q : a * B ≡ x * B = ap (λ (t : ℕ). t * B) h in (h, omega arith)
-    | more h ↦ absurd (omega (arith, mul-le-mul-right B h))
+    elim (tri a x) [
+      | less h ↦ absurd (omega (arith, mul-le-mul-right B h))
+      | same h ↦ let q : a * B ≡ x * B = ap (λ (t : ℕ). t * B) h in (h, omega arith)
+      | more h ↦ absurd (omega (arith, mul-le-mul-right B h))
     ]

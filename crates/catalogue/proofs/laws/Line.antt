@@ -62,6 +62,10 @@ clear-part bars k m n l h c =
     let b : Clear bars (take k l ++ take m (drop k l)) = subst (Clear bars) (take-add k m l) a in
     subst (Clear bars) (drop-append-seam (take k l) (take m (drop k l))) (clear-drop (length (take k l)) (take k l ++ take m (drop k l)) b)
 
+pub pair-length : (l : List ℕ) → 13 ≤ length l → length (pair l) ≡ 10
+unfolding pair
+pair-length l h = simp (length-append, length-take, length-drop) (omega arith)
+
 module _ (l : List ℕ) (w : Whole l) where
   source-clear : Clear true (take 2 (drop 10 l))
   source-clear = subst (λ (s : List ℕ). Clear true (take 2 s)) (drop-drop 8 2 l) (clear-part true 8 2 11 (drop 2 l) (omega arith) (w .clear))
@@ -74,25 +78,21 @@ module _ (l : List ℕ) (w : Whole l) where
       let e : take 1 (drop 12 l) ≡ getD l 12 0 ∷ [] = ap (take 1) (drop-cons l 12 0 (omega (arith, w .long))) in
       subst (Clear true) e (subst (λ (s : List ℕ). Clear true (take 1 s)) (drop-drop 10 2 l) (clear-part true 10 1 11 (drop 2 l) (omega arith) (w .clear)))
 
-  pub pair-length : length (pair l) ≡ 10
-  unfolding pair
-  pair-length = simp (length-append, length-take, length-drop) (omega (arith, w .long))
-
   pub pair-bytes : Bytes (pair l)
   unfolding pair
   pair-bytes = clear-bytes true (clear-append source-clear identifier-clear)
 
   pub deletion-key : deletionKey (deletion l) ≡ key l
   unfolding deletion deletionKey key
-  deletion-key = ap (wordOf 0) (take-at (pair l) (version l ∷ []) 10 pair-length)
+  deletion-key = ap (wordOf 0) (take-at (pair l) (version l ∷ []) 10 (pair-length l (w .long)))
 
   pub deletion-version : deletionVersion (deletion l) ≡ version l
   unfolding deletion deletionVersion
-  deletion-version = getD-at (pair l) (version l) [] 0 10 pair-length
+  deletion-version = getD-at (pair l) (version l) [] 0 10 (pair-length l (w .long))
 
   pub deletion-length : length (deletion l) ≡ 11
   unfolding deletion
-  deletion-length = simp length-append (omega (arith, pair-length))
+  deletion-length = simp length-append (omega (arith, pair-length l (w .long)))
 
   -- a deletion is of allowed bytes
   pub deletion-clear : barred 1 11 1 (deletion l) ≡ 0
@@ -107,7 +107,7 @@ module _ (l : List ℕ) (w : Whole l) where
 pub key-inj : (l m : List ℕ) → Whole l → Whole m → key l ≡ key m → pair l ≡ pair m
 unfolding key
 key-inj l m u v e =
-    word-inj (pair l) (pair m) 0 0 (pair-length l u ∙ sym (pair-length m v)) (pair-bytes l u) (pair-bytes m v) e .1
+    word-inj (pair l) (pair m) 0 0 (pair-length l (u .long) ∙ sym (pair-length m (v .long))) (pair-bytes l u) (pair-bytes m v) e .1
 
 pub deletion-eq : (l m : List ℕ) → Whole l → Whole m → key l ≡ key m → version l ≡ version m → deletion l ≡ deletion m
 unfolding deletion

@@ -69,10 +69,10 @@ closed-turn r s at w n j fits h e =
     let l : length (drop (at + w) r) ≡ length r - (at + w) = length-drop (at + w) r in
     let k : at + w + j ≡ at + j + w = omega arith in
     let b : getD s (at + w + j) 0 ≡ getD (drop (at + w) r) j 0 =
-        ap (λ (i : ℕ). getD s i 0) k ∙ sym (getD-drop (at + j) s w 0)
-        ∙ ap (λ (t : List ℕ). getD (drop (at + j) t) w 0) e
-        ∙ ap (λ (t : List ℕ). getD t w 0) (drop-paste r at (drop (at + w) r) j (omega arith) (omega arith))
-        ∙ getD-drop (at + j) r w 0 ∙ ap (λ (i : ℕ). getD r i 0) (sym k) ∙ sym (getD-drop (at + w) r j 0) in
+    ap (λ (i : ℕ). getD s i 0) k ∙ sym (getD-drop (at + j) s w 0)
+    ∙ ap (λ (t : List ℕ). getD (drop (at + j) t) w 0) e
+    ∙ ap (λ (t : List ℕ). getD t w 0) (drop-paste r at (drop (at + w) r) j (omega arith) (omega arith))
+    ∙ getD-drop (at + j) r w 0 ∙ ap (λ (i : ℕ). getD r i 0) (sym k) ∙ sym (getD-drop (at + w) r j 0) in
     ap (λ (v : ℕ). set s (at + j) v) b ∙ ap (λ (t : List ℕ). set t (at + j) (getD (drop (at + w) r) j 0)) e
     ∙ paste-suc r at (drop (at + w) r) j 0 (omega arith) (omega arith)
 

@@ -11,12 +11,16 @@ use Rattle.catalogue.proofs.rows.before.Tie as tie
 
 add-word2 : tie.Need-add-word2
 add-word2 c = search needs
+
 word2-requires : tie.Need-word2-requires
 word2-requires c κs = search needs
+
 add-word8 : tie.Need-add-word8
 add-word8 c = search needs
+
 word8-requires : tie.Need-word8-requires
 word8-requires c κs = search needs
+
 returns : tie.Need-returns
 returns c =
     let a = c .before .before .before .before .args in

@@ -9,16 +9,22 @@ use Rattle.catalogue.proofs.splice.cut.Tie as tie
 
 sub-close-gap : tie.Need-sub-close-gap
 sub-close-gap c = search needs
+
 sub-close-gap-2 : tie.Need-sub-close-gap-2
 sub-close-gap-2 c = search needs
+
 close-gap-requires : tie.Need-close-gap-requires
 close-gap-requires c κs = search needs
+
 sub-clear : tie.Need-sub-clear
 sub-clear c = search needs
+
 clear-requires : tie.Need-clear-requires
 clear-requires c κs = search needs
+
 same-length : tie.Need-same-length
 same-length c = search needs
+
 returns : tie.Need-returns
 unfolding cutOut
 returns c =

@@ -36,10 +36,12 @@ loop-less c = omega arith
 loop-again : tie.Need-loop-again Inv-loop μ-loop
 loop-again c =
     let a = c .before .before .before .args in
-    let l = c .before .before .loop in
-    (omega arith, omega arith,
-    ap (λ (r : List ℕ). set r (l .i - 1 + a .w) (getD r (l .i - 1) 0)) (l .inv .2) ∙ opened-back (a .room .now) (a .at) (a .used) (a .w) (omega arith) (l .i) (omega arith) (omega arith),
-    simp length-set (l .inv .3))
+    let l = c .before .before .loop in (
+      omega arith,
+      omega arith,
+      ap (λ (r : List ℕ). set r (l .i - 1 + a .w) (getD r (l .i - 1) 0)) (l .inv .2) ∙ opened-back (a .room .now) (a .at) (a .used) (a .w) (omega arith) (l .i) (omega arith) (omega arith),
+      simp length-set (l .inv .3),
+    )
 
 same-length : tie.Need-same-length Inv-loop μ-loop
 same-length c = c .before .loop .inv .3

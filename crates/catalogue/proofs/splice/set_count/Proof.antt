@@ -8,16 +8,22 @@ use Rattle.catalogue.proofs.splice.set_count.Tie as tie
 
 cast-room : tie.Need-cast-room
 cast-room c = search needs
+
 slice-write-room : tie.Need-slice-write-room
 slice-write-room c = search needs
+
 cast-room-2 : tie.Need-cast-room-2
 cast-room-2 c = search needs
+
 add-room : tie.Need-add-room
 add-room c = search needs
+
 slice-write-room-2 : tie.Need-slice-write-room-2
 slice-write-room-2 c = simp length-set (omega arith)
+
 same-length : tie.Need-same-length
 same-length c = search needs
+
 returns : tie.Need-returns
 unfolding counted
 returns c = refl

@@ -11,10 +11,13 @@ use Rattle.catalogue.proofs.splice.splice.Tie as tie
 
 open-gap-requires : tie.Need-open-gap-requires
 open-gap-requires c κs = search needs
+
 copy-in-requires : tie.Need-copy-in-requires
 copy-in-requires c κs = search needs
+
 same-length : tie.Need-same-length
 same-length c = search needs
+
 returns : tie.Need-returns
 returns c =
     let d = c .before .before .before .before .before .before .before .before .before .before in
