@@ -15,5 +15,6 @@ pub mod Order
 pub mod Maxima
 pub mod Feed
 pub mod Demand
+pub mod Last
 pub mod Lex
 pub mod Example
