@@ -30,7 +30,7 @@ lastCatalogue ls = record {
   deletions = collect (λ (k : ℕ). deletionFor (highest delete k ls)) (keys ls);
 }
 
--- what is asked of such a list: as of a settled one, but two E lines may differ in their other columns alone
+-- what is asked of such a list: what a settled one has, save that E lines may share source, identifier and version and yet differ
 pub record Bounded (ls : List (List ℕ)) : Type 0 where
   -- no acceptable delete has a blank version
   pub no-blank : (x : List ℕ) → Occurs ls x → kind x ≡ blank → ⊥

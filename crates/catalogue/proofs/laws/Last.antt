@@ -13,7 +13,7 @@ use lib.ListN.{length, replicate, length-map}
 use borrow.Author.Tests.{ltb-true, ltb-false, leb-true, leb-false, eqb-true, lt-ltb, le-ltb, le-leb, lt-leb, eq-eqb}
 use Rattle.catalogue.specs.Assoc.{find, put, remove, AscFrom}
 use Rattle.catalogue.specs.Line.{Kind, event, delete, blank, refused, kind, pair, version, key, deletion, deletionKey, deletionVersion}
-use Rattle.catalogue.specs.Catalogue.{Catalogue, named, empty, ifRoom, takeAbove, takeEvent, deleteAbove, takeDelete, takeKind, step, run}
+use Rattle.catalogue.specs.Catalogue.{Catalogue, Taken, named, empty, ifRoom, takeAbove, takeEvent, deleteAbove, takeDelete, takeKind, step, run}
 use Rattle.catalogue.specs.FromSet.{Of, DeletionIs, HeldIs, IsCatalogueOf}
 use Rattle.catalogue.specs.Lists.{Occurs, Acceptable, Settled}
 use Rattle.catalogue.specs.Maxima.{sameKind, higher, highest, deletionFor, heldFor, keys, collectAt, collect, fromSet}
@@ -77,7 +77,7 @@ fits? t k x = go (sameKind (kind x) t && eqb (key x) k) refl
 
 -- ---- what is chosen is a line of the list, and no other is above it
 
-abbrev BestIs : List (List ℕ) → Kind → ℕ → Option (List ℕ) → Type 0
+abbrev pub BestIs : List (List ℕ) → Kind → ℕ → Option (List ℕ) → Type 0
 BestIs ls t k none = (x : List ℕ) → Of (Occurs ls) t k x → ⊥
 BestIs ls t k (some y) = Of (Occurs ls) t k y × ((x : List ℕ) → Of (Occurs ls) t k x → version x ≤ version y)
 
@@ -119,7 +119,7 @@ module _ (l : List ℕ) (ls : List (List ℕ)) (t : Kind) (k : ℕ) where
     raise-later (some y) h =
         raise y h (leb (version l) (version y)) (leb-true (version l) (version y)) (λ (e : leb (version l) (version y) ≡ false). omega (arith, leb-false (version l) (version y) e))
 
-highest-is : (ls : List (List ℕ)) (t : Kind) (k : ℕ) → BestIs ls t k (highest t k ls)
+pub highest-is : (ls : List (List ℕ)) (t : Kind) (k : ℕ) → BestIs ls t k (highest t k ls)
 unfolding highest
 highest-is [] t k = λ (x : List ℕ) (o : Of (Occurs []) t k x). List·Memᴰ·not-nil (o .inside)
 highest-is (l ∷ ls) t k =
@@ -128,7 +128,7 @@ highest-is (l ∷ ls) t k =
       | other n e ↦ rw e (skip l ls t k n (highest t k ls) (highest-is ls t k))
     ]
 
-last-highest-is : (ls : List (List ℕ)) (t : Kind) (k : ℕ) → BestIs ls t k (lastHighest t k ls)
+pub last-highest-is : (ls : List (List ℕ)) (t : Kind) (k : ℕ) → BestIs ls t k (lastHighest t k ls)
 unfolding lastHighest
 last-highest-is [] t k = λ (x : List ℕ) (o : Of (Occurs []) t k x). List·Memᴰ·not-nil (o .inside)
 last-highest-is (l ∷ ls) t k =
@@ -206,7 +206,6 @@ module _ (key : List ℕ → ℕ) (f : ℕ → Option (List ℕ)) (keyed : (k : 
   at-other k j none xs e n = refl
   at-other k j (some x) xs e n = find-there key x xs j (λ (q : key x ≡ j). n (sym (keyed k x e) ∙ q))
 
-  -- what is found is what was to be collected, where there was nothing or the key is listed
   collect-find : (ks : List ℕ) (b j : ℕ) → AscFrom (λ (k : ℕ). k) b ks → (f j ≡ none) ⊎ (find (λ (k : ℕ). k) j ks ≡ some j) → find key j (collect f ks) ≡ f j
   unfolding collect find
   collect-find [] b j s (inl e) = sym e
@@ -218,6 +217,14 @@ module _ (key : List ℕ → ℕ) (f : ℕ → Option (List ℕ)) (keyed : (k : 
             at-other k j (f k) (collect f ks) refl q
             ∙ collect-find ks (suc k) j (s .1) (elim m [ inl e ↦ inl e | inr g ↦ inr (sym (find-there (λ (u : ℕ). u) k ks j q) ∙ g) ])
       ]
+
+  -- what is found is what was to be collected, where each key with something to collect is listed
+  collected : (ks : List ℕ) (j : ℕ) → AscFrom (λ (k : ℕ). k) 0 ks → ((e : List ℕ) → f j ≡ some e → find (λ (k : ℕ). k) j ks ≡ some j) → find key j (collect f ks) ≡ f j
+  collected ks j s m = go (f j) refl
+    where
+      go : (o : Option (List ℕ)) → f j ≡ o → find key j (collect f ks) ≡ f j
+      go none e = collect-find ks 0 j s (inl e)
+      go (some x) e = collect-find ks 0 j s (inr (m x e))
 
 keys-asc : (ls : List (List ℕ)) → AscFrom (λ (k : ℕ). k) 0 (keys ls)
 unfolding keys
@@ -239,7 +246,6 @@ module _ (ls : List (List ℕ)) where
   of-listed : {t : Kind} {k : ℕ} {x : List ℕ} → Of (Occurs ls) t k x → find (λ (j : ℕ). j) k (keys ls) ≡ some k
   of-listed {x = x} o = subst (λ (j : ℕ). find (λ (i : ℕ). i) j (keys ls) ≡ some j) (o .is-key) (keys-listed ls x (o .inside))
 
-  -- what is to be held or deleted has its key, and its key is listed
   held-of : (k : ℕ) (o d : Option (List ℕ)) (e : List ℕ) → BestIs ls event k o → heldFor o d ≡ some e → Of (Occurs ls) event k e
   unfolding heldFor
   held-of k none d e h q = let z : _≡_ {A = ℕ} 0 1 = cc in absurd (omega arith)
@@ -250,50 +256,34 @@ module _ (ls : List (List ℕ)) where
       go true r = let s : x ≡ e = cc in subst (Of (Occurs ls) event k) s (h .0)
       go false r = let z : _≡_ {A = ℕ} 0 1 = cc in absurd (omega arith)
 
-  deletion-of : (k : ℕ) (o : Option (List ℕ)) (e : List ℕ) → BestIs ls delete k o → deletionFor o ≡ some e → (x : List ℕ) × Of (Occurs ls) delete k x × (e ≡ deletion x)
+  deletion-of : (k : ℕ) (o : Option (List ℕ)) (e : List ℕ) → BestIs ls delete k o → deletionFor o ≡ some e → (deletionKey e ≡ k) × (find (λ (j : ℕ). j) k (keys ls) ≡ some k)
   unfolding deletionFor
   deletion-of k none e h q = let z : _≡_ {A = ℕ} 0 1 = cc in absurd (omega arith)
-  deletion-of k (some x) e h q = let r : e ≡ deletion x = cc in (x, h .0, r)
+  deletion-of k (some x) e h q =
+      let r : e ≡ deletion x = cc in
+      (ap deletionKey r ∙ deletion-key x (whole x (delete-ok (h .0))) ∙ h .0 .is-key, of-listed (h .0))
 
-  to-hold : ℕ → Option (List ℕ)
-  to-hold k = heldFor (lastHighest event k ls) (highest delete k ls)
+  -- what stands for a key in each section
+  abbrev heldAt : ℕ → Option (List ℕ)
+  heldAt k = heldFor (lastHighest event k ls) (highest delete k ls)
 
-  to-delete : ℕ → Option (List ℕ)
-  to-delete k = deletionFor (highest delete k ls)
-
-  hold-of : (k : ℕ) (e : List ℕ) → to-hold k ≡ some e → Of (Occurs ls) event k e
-  unfolding to-hold
-  hold-of k e q = held-of k (lastHighest event k ls) (highest delete k ls) e (last-highest-is ls event k) q
-
-  delete-of : (k : ℕ) (e : List ℕ) → to-delete k ≡ some e → (x : List ℕ) × Of (Occurs ls) delete k x × (e ≡ deletion x)
-  unfolding to-delete
-  delete-of k e q = deletion-of k (highest delete k ls) e (highest-is ls delete k) q
-
-  delete-keyed : (k : ℕ) (e : List ℕ) → to-delete k ≡ some e → deletionKey e ≡ k
-  delete-keyed k e q =
-      let r = delete-of k e q in
-      ap deletionKey (r .2) ∙ deletion-key (r .0) (whole (r .0) (delete-ok (r .1))) ∙ r .1 .is-key
-
-  listed : (f : ℕ → Option (List ℕ)) (k : ℕ) → ((e : List ℕ) → f k ≡ some e → find (λ (j : ℕ). j) k (keys ls) ≡ some k) → (f k ≡ none) ⊎ (find (λ (j : ℕ). j) k (keys ls) ≡ some k)
-  listed f k m = go (f k) refl
-    where
-      go : (o : Option (List ℕ)) → f k ≡ o → (f k ≡ none) ⊎ (find (λ (j : ℕ). j) k (keys ls) ≡ some k)
-      go none e = inl e
-      go (some x) e = inr (m x e)
+  abbrev deletedAt : ℕ → Option (List ℕ)
+  deletedAt k = deletionFor (highest delete k ls)
 
   pub last-follows : Follows ls (lastCatalogue ls)
-  unfolding lastCatalogue to-hold to-delete
+  unfolding lastCatalogue
   last-follows =
-      let h : (k : ℕ) (e : List ℕ) → to-hold k ≡ some e → key e ≡ k = λ (k : ℕ) (e : List ℕ) (q : to-hold k ≡ some e). hold-of k e q .is-key in
+      let h : (k : ℕ) (e : List ℕ) → heldAt k ≡ some e → Of (Occurs ls) event k e =
+      λ (k : ℕ) (e : List ℕ). held-of k (lastHighest event k ls) (highest delete k ls) e (last-highest-is ls event k) in
+      let a : (k : ℕ) (e : List ℕ) → heldAt k ≡ some e → key e ≡ k = λ (k : ℕ) (e : List ℕ) (q : heldAt k ≡ some e). h k e q .is-key in
+      let g : (k : ℕ) (e : List ℕ) → deletedAt k ≡ some e → (deletionKey e ≡ k) × (find (λ (j : ℕ). j) k (keys ls) ≡ some k) =
+      λ (k : ℕ) (e : List ℕ). deletion-of k (highest delete k ls) e (highest-is ls delete k) in
+      let b : (k : ℕ) (e : List ℕ) → deletedAt k ≡ some e → deletionKey e ≡ k = λ (k : ℕ) (e : List ℕ) (q : deletedAt k ≡ some e). g k e q .0 in
       record {
-        held-ascends = collect-asc key to-hold h (keys ls) 0 (keys-asc ls);
-        deletion-ascends = collect-asc deletionKey to-delete delete-keyed (keys ls) 0 (keys-asc ls);
-        held-found =
-            λ (k : ℕ). collect-find key to-hold h (keys ls) 0 k (keys-asc ls)
-            (listed to-hold k (λ (e : List ℕ) (q : to-hold k ≡ some e). of-listed (hold-of k e q)));
-        deletion-found =
-            λ (k : ℕ). collect-find deletionKey to-delete delete-keyed (keys ls) 0 k (keys-asc ls)
-            (listed to-delete k (λ (e : List ℕ) (q : to-delete k ≡ some e). of-listed (delete-of k e q .1)));
+        held-ascends = collect-asc key heldAt a (keys ls) 0 (keys-asc ls);
+        deletion-ascends = collect-asc deletionKey deletedAt b (keys ls) 0 (keys-asc ls);
+        held-found = λ (k : ℕ). collected key heldAt a (keys ls) k (keys-asc ls) (λ (e : List ℕ) (q : heldAt k ≡ some e). of-listed (h k e q));
+        deletion-found = λ (k : ℕ). collected deletionKey deletedAt b (keys ls) k (keys-asc ls) (λ (e : List ℕ) (q : deletedAt k ≡ some e). g k e q .1);
       }
 
 -- ---- one line taken: what is held after it
@@ -303,6 +293,12 @@ abbrev Stays : Catalogue → List ℕ → ℕ → List ℕ → Type 0
 Stays c l k e = ((e ≡ l) × (kind l ≡ event) × (key l ≡ k)) ⊎ ((find key k (c .held) ≡ some e) × (kind l ≡ event → key l ≡ k → version l < version e))
 
 module _ (S : List ℕ → Type 0) (c : Catalogue) (I : IsCatalogueOf S c) (l : List ℕ) (k : ℕ) (e : List ℕ) where
+  -- found after one call or the other
+  by-pick : (b : Bool) (u v : Taken) → (b ≡ true → find key k (u .after .held) ≡ some e → Stays c l k e)
+      → (b ≡ false → find key k (v .after .held) ≡ some e → Stays c l k e) → find key k (pick b u v .after .held) ≡ some e → Stays c l k e
+  by-pick true u v f g q = f refl q
+  by-pick false u v f g q = g refl q
+
   module _ (p : kind l ≡ event) where
     put-found : find key k (put key l (c .held)) ≡ some e → Stays c l k e
     put-found f =
@@ -311,97 +307,76 @@ module _ (S : List ℕ → Type 0) (c : Catalogue) (I : IsCatalogueOf S c) (l : 
           | ne r ↦ inr (sym (find-put-other key l (c .held) k r) ∙ f, λ (a : kind l ≡ event) (b : key l ≡ k). absurd (r b))
         ]
 
+    -- nothing changes: by what the line's own key finds
+    kept-found : ((find key (key l) (c .held) ≡ some e) → (e ≡ l) ⊎ (version l < version e)) → find key k (c .held) ≡ some e → Stays c l k e
+    kept-found h f =
+        elim (eq? (key l) k) [
+          | eq r ↦ elim (h (ap (λ (j : ℕ). find key j (c .held)) r ∙ f)) [
+            | inl s ↦ inl (s, p, r)
+            | inr v ↦ inr (f, λ (a : kind l ≡ event) (b : key l ≡ k). v)
+          ]
+          | ne r ↦ inr (f, λ (a : kind l ≡ event) (b : key l ≡ k). absurd (r b))
+        ]
+
     above-found : (o : Option (List ℕ)) → find key (key l) (c .held) ≡ o → find key k (takeAbove c l o .after .held) ≡ some e → Stays c l k e
     unfolding takeAbove
-    above-found none q f = put-found f
-    above-found (some h) q f = go (ltb (version l) (version h)) refl (sameBytes l h) refl
-      where
-        -- what the line's key finds is h
-        is-h : find key k (c .held) ≡ some e → key l ≡ k → e ≡ h
-        is-h g b = cc (ap (λ (j : ℕ). find key j (c .held)) b)
-
-        go : (s : Bool) → ltb (version l) (version h) ≡ s → (t : Bool) → sameBytes l h ≡ t → Stays c l k e
-        go true r t u =
-            let g : find key k (c .held) ≡ some e = rw r at f in
-            inr (g, λ (a : kind l ≡ event) (b : key l ≡ k). omega (arith, ltb-true (version l) (version h) r, ap version (is-h g b)))
-        go false r true u =
-            let g : find key k (c .held) ≡ some e = rw (r, u) at f in
-            elim (eq? (key l) k) [
-              | eq b ↦ inl (is-h g b ∙ sym (same-bytes-true l h u), p, b)
-              | ne b ↦ inr (g, λ (a : kind l ≡ event) (d : key l ≡ k). absurd (b d))
-            ]
-        go false r false u = put-found (rw (r, u) at f)
+    above-found none q = put-found
+    above-found (some h) q =
+        by-pick _ _ _
+        (λ r. kept-found (λ u. let s : e ≡ h = cc in inr (omega (arith, ltb-true (version l) (version h) r, ap version s))))
+        (λ r. by-pick _ _ _ (λ t. kept-found (λ u. let s : e ≡ h = cc in inl (s ∙ sym (same-bytes-true l h t)))) (λ t. put-found))
 
     event-found : (g o : Option (List ℕ)) → find deletionKey (key l) (c .deletions) ≡ g → find key (key l) (c .held) ≡ o
         → find key k (takeEvent c l g o .after .held) ≡ some e → Stays c l k e
     unfolding takeEvent ifRoom
-    event-found none none q r f = go (leb 512 (named c)) refl
-      where
-        go : (s : Bool) → leb 512 (named c) ≡ s → Stays c l k e
-        go true u =
-            let g : find key k (c .held) ≡ some e = rw u at f in
-            inr (g, λ (a : kind l ≡ event) (b : key l ≡ k). let z : _≡_ {A = ℕ} 0 1 = cc (ap (λ (j : ℕ). find key j (c .held)) b) in absurd (omega arith))
-        go false u = above-found none r (rw u at f)
-    event-found none (some h) q r f = above-found (some h) r f
-    event-found (some d) o q r f = go (leb (version l) (deletionVersion d)) refl
-      where
-        w : DeletionIs S (key l) (some d)
-        w = subst (DeletionIs S (key l)) q (I .deletion-is (key l))
-
-        go : (s : Bool) → leb (version l) (deletionVersion d) ≡ s → Stays c l k e
-        go true u =
-            let g : find key k (c .held) ≡ some e = rw u at f in
-            let v : deletionVersion d ≡ version (w .0) = ap deletionVersion (w .2) ∙ deletion-version (w .0) (whole (w .0) (delete-ok (w .1))) in
-            inr (
-              g,
-              λ (a : kind l ≡ event) (b : key l ≡ k).
-                  let t : HeldIs S (key l) (some e) = subst (HeldIs S (key l)) (ap (λ (j : ℕ). find key j (c .held)) b ∙ g) (I .held-is (key l)) in
-                  omega (arith, leb-true (version l) (deletionVersion d) u, t .2 (w .0) (w .1)),
-            )
-        go false u = above-found o r (rw u at f)
+    event-found none none q r =
+        by-pick (leb 512 (named c)) (record { answer = 12; after = c }) (takeAbove c l none)
+        (λ t. kept-found (λ u. let z : _≡_ {A = ℕ} 0 1 = cc in absurd (omega arith))) (λ t. above-found none r)
+    event-found none (some h) q r = above-found (some h) r
+    event-found (some d) o q r =
+        let w : DeletionIs S (key l) (some d) = subst (DeletionIs S (key l)) q (I .deletion-is (key l)) in
+        let v : deletionVersion d ≡ version (w .0) = ap deletionVersion (w .2) ∙ deletion-version (w .0) (whole (w .0) (delete-ok (w .1))) in
+        by-pick _ _ _
+        (λ t. kept-found (λ u.
+        let h : HeldIs S (key l) (some e) = subst (HeldIs S (key l)) u (I .held-is (key l)) in
+        inr (omega (arith, leb-true (version l) (deletionVersion d) t, h .2 (w .0) (w .1)))))
+        (λ t. above-found o r)
 
   module _ (n : kind l ≡ event → ⊥) where
     still : find key k (c .held) ≡ some e → Stays c l k e
     still f = inr (f, λ (a : kind l ≡ event) (b : key l ≡ k). absurd (n a))
 
+    removed-found : find key k (remove key (key l) (c .held)) ≡ some e → Stays c l k e
+    removed-found f =
+        elim (eq? (key l) k) [
+          | eq b ↦ let z : _≡_ {A = ℕ} 0 1 = cc (find-remove-same key k (c .held)) in absurd (omega arith)
+          | ne b ↦ still (sym (find-remove-other key (key l) k (c .held) b) ∙ f)
+        ]
+
     delete-above-found : (o : Option (List ℕ)) → find key k (deleteAbove c l o .after .held) ≡ some e → Stays c l k e
     unfolding deleteAbove
-    delete-above-found none f = still f
-    delete-above-found (some h) f = go (leb (version h) (version l)) refl
-      where
-        go : (s : Bool) → leb (version h) (version l) ≡ s → Stays c l k e
-        go true u =
-            let g : find key k (remove key (key l) (c .held)) ≡ some e = rw u at f in
-            elim (eq? (key l) k) [
-              | eq b ↦ let z : _≡_ {A = ℕ} 0 1 = cc (find-remove-same key k (c .held)) in absurd (omega arith)
-              | ne b ↦ still (sym (find-remove-other key (key l) k (c .held) b) ∙ g)
-            ]
-        go false u = still (rw u at f)
+    delete-above-found none = still
+    delete-above-found (some h) =
+        by-pick (leb (version h) (version l))
+        (record { answer = 24; after = record { held = remove key (key l) (c .held); deletions = put deletionKey (deletion l) (c .deletions) } })
+        (record { answer = 25; after = record { held = c .held; deletions = put deletionKey (deletion l) (c .deletions) } }) (λ t. removed-found) (λ t. still)
 
     delete-found : (g o : Option (List ℕ)) → find key k (takeDelete c l g o .after .held) ≡ some e → Stays c l k e
     unfolding takeDelete ifRoom
-    delete-found none none f = go (leb 512 (named c)) refl
-      where
-        go : (s : Bool) → leb 512 (named c) ≡ s → Stays c l k e
-        go true u = still (rw u at f)
-        go false u = delete-above-found none (rw u at f)
-    delete-found none (some h) f = delete-above-found (some h) f
-    delete-found (some d) o f = go (leb (version l) (deletionVersion d)) refl
-      where
-        go : (s : Bool) → leb (version l) (deletionVersion d) ≡ s → Stays c l k e
-        go true u = still (rw u at f)
-        go false u = delete-above-found o (rw u at f)
+    delete-found none none = by-pick (leb 512 (named c)) (record { answer = 12; after = c }) (deleteAbove c l none) (λ t. still) (λ t. delete-above-found none)
+    delete-found none (some h) = delete-above-found (some h)
+    delete-found (some d) o = by-pick (leb (version l) (deletionVersion d)) (record { answer = 23; after = c }) (deleteAbove c l o) (λ t. still) (λ t. delete-above-found o)
 
   step-found : (kind l ≡ blank → ⊥) → find key k (step c l .after .held) ≡ some e → Stays c l k e
   unfolding step takeKind
   step-found b f = go (kind l) refl f
     where
       go : (t : Kind) → kind l ≡ t → find key k (takeKind t c l .after .held) ≡ some e → Stays c l k e
-      go event p g = event-found p (find deletionKey (key l) (c .deletions)) (find key (key l) (c .held)) refl refl g
-      go delete p g =
-          delete-found (λ (r : kind l ≡ event). let z : _≡_ {A = ℕ} 0 1 = cc in omega arith) (find deletionKey (key l) (c .deletions)) (find key (key l) (c .held)) g
-      go blank p g = absurd (b p)
-      go refused p g = still (λ (r : kind l ≡ event). let z : _≡_ {A = ℕ} 0 1 = cc in omega arith) g
+      go event p = event-found p (find deletionKey (key l) (c .deletions)) (find key (key l) (c .held)) refl refl
+      go delete p =
+          delete-found (λ (r : kind l ≡ event). let z : _≡_ {A = ℕ} 0 1 = cc in omega arith) (find deletionKey (key l) (c .deletions)) (find key (key l) (c .held))
+      go blank p = absurd (b p)
+      go refused p = still (λ (r : kind l ≡ event). let z : _≡_ {A = ℕ} 0 1 = cc in omega arith)
 
 -- ---- a list taken
 
