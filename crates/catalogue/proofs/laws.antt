@@ -15,6 +15,7 @@ pub mod Order
 pub mod Maxima
 pub mod Feed
 pub mod Demand
+pub mod Last
 pub mod Lex
 pub mod Example
 pub mod Splicing

@@ -4,6 +4,7 @@ pub mod Catalogue
 pub mod FromSet
 pub mod Lists
 pub mod Maxima
+pub mod Last
 pub mod Room
 pub mod Ordered
 pub mod Splice
