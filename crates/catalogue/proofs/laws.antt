@@ -31,3 +31,4 @@ pub mod RoomAt
 pub mod Sorts
 pub mod OrderRows
 pub mod InOrder
+pub mod LookUp

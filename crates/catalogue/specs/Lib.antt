@@ -11,3 +11,4 @@ pub mod Splice
 pub mod Rows
 pub mod Plans
 pub mod Zeros
+pub mod LookUp

@@ -1,4 +1,5 @@
 // The catalogue: one room of held E lines and deletions.
+pub mod look_up;
 pub mod order;
 pub mod rows;
 pub mod splice;
@@ -26,8 +27,18 @@ pub const NOTED: u8 = 25;
 
 pub const NOTHING_HELD: u8 = 26;
 
+pub const HELD: u8 = 27;
+
+pub const NOT_HELD: u8 = 28;
+
 // What a call answers: a number, and the column of a refused line.
 pub struct Call {
     pub number: u8,
     pub column: usize,
+}
+
+// What a look-up answers: a number, and the place of a held line.
+pub struct Looked {
+    pub number: u8,
+    pub place: usize,
 }

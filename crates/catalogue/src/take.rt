@@ -19,7 +19,7 @@ ghost use Rattle.catalogue.specs.Ordered.{Ordered};
 ghost use Rattle.catalogue.specs.Rows.{Sought};
 
 // How many lines are held.
-fn held(room: &[u8]) -> usize
+pub fn held(room: &[u8]) -> usize
     requires { ⌜ Ordered (now room) ⌝ }
     ensures { λ r. ⌜ (r ≡ getD (now (room .entry)) 0 0 * 256 + getD (now (room .entry)) 1 0) × (length (contents (now (room .entry)) .held) ≡ r) × (r ≤ 512) ⌝ }
 {

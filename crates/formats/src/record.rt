@@ -79,7 +79,7 @@ pub fn put_values(out: &mut [u8], values: &[i64])
 }
 
 // The bytes of `from`, from place `at` on.
-fn copy_at(out: &mut [u8], at: usize, from: &[u8])
+pub fn copy_at(out: &mut [u8], at: usize, from: &[u8])
     requires { ⌜ at + length (now from) ≤ length (now out) ⌝ }
     ensures { λ _. ⌜ now (out .exit) ≡ placed at (now (from .entry)) (now (out .entry)) ⌝ }
 {

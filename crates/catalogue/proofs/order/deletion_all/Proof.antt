@@ -1,4 +1,3 @@
---filled
 use Rattle.columns.specs.Bytes.{barred}
 use borrow.Author.Tests.{eq-eqb, ne-eqb}
 use native.Mathlib.Omega.{arith}

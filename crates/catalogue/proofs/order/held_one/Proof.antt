@@ -1,4 +1,3 @@
---filled
 use Rattle.catalogue.proofs.laws.Sorts.{kind-told}
 use native.Mathlib.Omega.{arith}
 use mathlib.Core.Path.{refl, sym, _∙_, ap, subst}

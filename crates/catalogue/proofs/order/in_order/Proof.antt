@@ -1,4 +1,3 @@
---filled
 use Rattle.catalogue.proofs.laws.InOrder.{many-held, many-deletion, deletion-ascend, deletion-mixed, held-mixed, deletion-barred, held-barred, many-named, zeros-decide}
 use native.Mathlib.Omega.{arith}
 use mathlib.Core.Path.{sym, _∙_}

@@ -1,4 +1,3 @@
---filled
 use Rattle.catalogue.proofs.laws.Delete.{deletion-bytes}
 use denote.Ref.{now}
 use borrow.Author.Needs.{needs}

@@ -1,4 +1,3 @@
---filled
 use denote.Ref.{now}
 use Rattle.catalogue.proofs.laws.View.{held-number, few}
 use borrow.Author.Needs.{needs}

@@ -1,4 +1,3 @@
---filled
 use native.Mathlib.Omega.{arith}
 use denote.Ref.{now}
 use Rattle.catalogue.proofs.laws.RoomAt.{held-at}

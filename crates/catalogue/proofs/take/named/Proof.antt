@@ -1,4 +1,3 @@
---filled
 use Rattle.catalogue.specs.Catalogue.{onlyHeld, named}
 use Rattle.catalogue.specs.Room.{contents}
 use Rattle.catalogue.proofs.laws.View.{view-good}

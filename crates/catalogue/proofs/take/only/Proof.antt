@@ -1,4 +1,3 @@
---filled
 use Rattle.catalogue.proofs.laws.Event.{row-of}
 use Rattle.catalogue.proofs.laws.Decide.{found-find, missing-find, only-one, only-zero}
 use Rattle.catalogue.specs.Line.{key, deletionKey}

@@ -1,4 +1,3 @@
---filled
 use Rattle.catalogue.specs.Line.{key, deletionKey}
 use Rattle.catalogue.specs.Room.{contents}
 use Rattle.catalogue.specs.Rows.{Sought}

@@ -1,4 +1,3 @@
---filled
 use Rattle.catalogue.specs.Splice.{counted}
 use Rattle.catalogue.proofs.laws.Delete.{remove-law}
 use mathlib.Core.Path.{_∙_, ap}

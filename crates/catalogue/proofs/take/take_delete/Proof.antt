@@ -1,4 +1,3 @@
---filled
 use Rattle.catalogue.specs.Line.{delete, refused}
 use Rattle.catalogue.specs.Catalogue.{step}
 use Rattle.catalogue.specs.Room.{contents}
