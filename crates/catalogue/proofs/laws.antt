@@ -32,3 +32,4 @@ pub mod Sorts
 pub mod OrderRows
 pub mod InOrder
 pub mod LookUp
+pub mod Answered

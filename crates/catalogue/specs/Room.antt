@@ -78,6 +78,10 @@ good c =
 unfoldable pub inOrder : List ℕ → Bool
 inOrder r = good (contents r) && sameBytes (encode (contents r)) r
 
+-- any bytes, judged: 0 in order, 13 not, 11 too short
+unfoldable pub orderOf : List ℕ → ℕ
+orderOf room = pick (leb 46596 (length room)) (pick (inOrder (take 46596 room)) 0 13) 11
+
 -- a call's answer on a room and a line
 unfoldable pub answerOf : List ℕ → List ℕ → ℕ
 answerOf room line =

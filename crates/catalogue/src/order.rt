@@ -13,7 +13,7 @@ ghost use lib.ListN.{length, getD, take, drop};
 ghost use Rattle.catalogue.specs.Line.{deletionKey};
 ghost use Rattle.catalogue.specs.Assoc.{AscFrom};
 ghost use Rattle.catalogue.specs.Catalogue.{onlyHeld};
-ghost use Rattle.catalogue.specs.Room.{rows, every, heldOk, deletionOk, inOrder, roomAfter, callOf};
+ghost use Rattle.catalogue.specs.Room.{rows, every, heldOk, deletionOk, inOrder, orderOf, roomAfter, callOf};
 ghost use Rattle.catalogue.specs.Zeros.{allZero};
 
 // Whether each deletion is of allowed bytes.
@@ -147,6 +147,19 @@ pub fn in_order(s: &[u8]) -> bool
         return false;
     }
     false
+}
+
+// Whether any bytes are a room in order: 0, else the refusal.
+pub fn check_order(room: &[u8]) -> u8
+    ensures { λ r. ⌜ r ≡ orderOf (now (room .entry)) ⌝ }
+{
+    if room.len() < 46596 {
+        return columns::SHORT;
+    }
+    if in_order(&room[0..46596]) {
+        return 0;
+    }
+    super::DISORDER
 }
 
 // A line, taken into any room: its answer, and the room after it.

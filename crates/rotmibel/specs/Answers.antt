@@ -5,6 +5,7 @@ use Prim.Native.Nat.{ℕ, _+_, _*_, _<_}
 use lib.ListN.{length}
 use Rattle.columns.specs.Answer.{Answer, ok, refusal}
 use Rattle.columns.specs.Table.{laid}
+use Rattle.catalogue.specs.declared.Looked.{Looked}
 use Rattle.formats.specs.declared.Reply.{Reply}
 use Rattle.formats.specs.declared.Reply.the-variants as R
 
@@ -31,3 +32,7 @@ small (R.Refused n k) = k < 65536
 pub record Answered (a : Answer (List ℕ)) (r : ℕ) (from to : List ℕ) : Type 0 where
   pub answer : r ≡ numberOf a
   pub bytes : to ≡ laid a from
+
+-- a look-up's answer, with the place of the held line where a length stands
+abbrev pub lookedNumber : Looked → ℕ
+lookedNumber x = parts (x .number) 0 (x .place)

@@ -1,12 +1,25 @@
 // The library as C sees it: numbers and byte slices (a pointer and a length). include/rotmibel.h documents each call.
+use catalogue::look_up::look_up;
+use catalogue::order::check_order;
+use catalogue::order::take_line;
 use formats::Reply;
 use formats::cube_record::read_into;
 use formats::cube_record::write_from;
 ghost use mathlib.Core.Path.{_≡_};
-ghost use Prim.Native.Nat.{_≤_};
+ghost use Prim.Native.Nat.{_<_};
 ghost use lib.ListN.{length};
 ghost use Rattle.formats.specs.CubeRecord.{readInto, writeFrom};
-ghost use Rattle.rotmibel.specs.Answers.{numberIn, small, Answered};
+ghost use Rattle.catalogue.specs.Room.{answerOf, columnOf, roomAfter, orderOf};
+ghost use Rattle.catalogue.specs.LookUp.{lookUp};
+ghost use Rattle.rotmibel.specs.Answers.{parts, numberIn, small, lookedNumber, Answered};
+
+// Answer, column and length in one number.
+fn parts_of(answer: u8, column: usize, len: usize) -> u64
+    requires { ⌜ (column < 65536) × (len < 16777216) ⌝ }
+    ensures { λ n. ⌜ n ≡ parts answer column len ⌝ }
+{
+    (answer as u64) + 256 * (column as u64) + 16777216 * (len as u64)
+}
 
 // A reply as one number.
 fn number_of(r: Reply) -> u64
@@ -14,8 +27,8 @@ fn number_of(r: Reply) -> u64
     ensures { λ n. ⌜ n ≡ numberIn r ⌝ }
 {
     match r {
-        Reply::Done(len) => (len as u64) * 16777216,
-        Reply::Refused(number, column) => (number as u64) + 256 * (column as u64),
+        Reply::Done(len) => parts_of(0, 0, len),
+        Reply::Refused(number, column) => parts_of(number, column, 0),
     }
 }
 
@@ -33,4 +46,30 @@ pub extern "C" fn rotmibel_write_line(from: &[u8], out: &mut [u8]) -> u64
     ensures { λ r. ⌜ Answered (writeFrom (now (from .entry)) (length (now (out .entry)))) r (now (out .entry)) (now (out .exit)) ⌝ }
 {
     number_of(write_from(from, out))
+}
+
+// A line taken into a room.
+#[no_mangle]
+pub extern "C" fn rotmibel_take(room: &mut [u8], line: &[u8]) -> u64
+    ensures { λ r. ⌜ (r ≡ parts (answerOf (now (room .entry)) (now (line .entry))) (columnOf (now (room .entry)) (now (line .entry))) 0) × (now (room .exit) ≡ roomAfter (now (room .entry)) (now (line .entry))) ⌝ }
+{
+    let call = take_line(room, line);
+    parts_of(call.number, call.column, 0)
+}
+
+// A pair looked up in a room.
+#[no_mangle]
+pub extern "C" fn rotmibel_look_up(room: &[u8], source: &[u8], identifier: &[u8]) -> u64
+    ensures { λ r. ⌜ r ≡ lookedNumber (lookUp (now (room .entry)) (now (source .entry)) (now (identifier .entry))) ⌝ }
+{
+    let looked = look_up(room, source, identifier);
+    parts_of(looked.number, 0, looked.place)
+}
+
+// Whether a room is in order.
+#[no_mangle]
+pub extern "C" fn rotmibel_in_order(room: &[u8]) -> u64
+    ensures { λ r. ⌜ r ≡ parts (orderOf (now (room .entry))) 0 0 ⌝ }
+{
+    parts_of(check_order(room), 0, 0)
 }

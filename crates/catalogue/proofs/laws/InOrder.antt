@@ -12,7 +12,7 @@ use borrow.Author.Tests.{le-leb, lt-leb, leb-true, eqb-true}
 use Rattle.catalogue.specs.Line.{key, deletionKey}
 use Rattle.catalogue.specs.Assoc.{AscFrom}
 use Rattle.catalogue.specs.Catalogue.{Catalogue, onlyHeld, named}
-use Rattle.catalogue.specs.Room.{number, rows, ascends, every, heldOk, deletionOk, sections, encode, afterHeld, contents, good, inOrder, answerOf, columnOf, callOf, roomAfter}
+use Rattle.catalogue.specs.Room.{number, rows, ascends, every, heldOk, deletionOk, sections, encode, afterHeld, contents, good, inOrder, answerOf, columnOf, callOf, orderOf, roomAfter}
 use Rattle.catalogue.proofs.laws.Encode.{Shaped, sections-length}
 use Rattle.catalogue.proofs.laws.Line.{and-both}
 use Rattle.catalogue.proofs.laws.Step.{same-bytes-true}
@@ -169,18 +169,18 @@ module _ (R : List ℕ) (len : length R ≡ 46596) (n : ℕ) (hn : n ≡ two R 0
           ap (λ (u : List ℕ). allZero (drop (4 + 80 * n + 11 * m) u)) (sym q)
           ∙ ap allZero (drop-at (sections (contents R)) (replicate (46596 - length (sections (contents R))) 0) (4 + 80 * n + 11 * m) used-bytes) ∙ list-zero (46596 - length (sections (contents R)))
 
-      order-is : inOrder R ≡ sameBytes (encode (contents R)) R
+      room-order : inOrder R ≡ sameBytes (encode (contents R)) R
       unfolding inOrder
-      order-is = rw good-contents
+      room-order = rw good-contents
 
       pub zeros-decide : (z : Bool) → z ≡ allZero (take (46596 - (4 + 80 * n + 11 * m)) (drop (4 + 80 * n + 11 * m) R)) → z ≡ inOrder R
       zeros-decide true h =
           let q : encode (contents R) ≡ R = zeros-here (ap allZero (sym tail-is) ∙ sym h) in
-          sym (order-is ∙ ap (λ (u : List ℕ). sameBytes u R) q ∙ same-bytes-self R)
+          sym (room-order ∙ ap (λ (u : List ℕ). sameBytes u R) q ∙ same-bytes-self R)
       zeros-decide false h =
           never (sameBytes (encode (contents R)) R) (λ (t : sameBytes (encode (contents R)) R ≡ true).
           differ (allZero (drop (4 + 80 * n + 11 * m) R)) (zeros-there (same-bytes-true (encode (contents R)) R t)) (ap allZero (sym tail-is) ∙ sym h))
-          ∙ sym order-is
+          ∙ sym room-order
 
 -- a room that is too short, or not in order
 module _ (r l : List ℕ) where
@@ -194,3 +194,16 @@ module _ (r l : List ℕ) where
 
   pub to-ordered : 46596 ≤ length r → inOrder (take 46596 r) ≡ true → Ordered r
   to-ordered h f = record { long = h; fine = f }
+
+module _ (r : List ℕ) where
+  pub order-short : length r < 46596 → 11 ≡ orderOf r
+  unfolding orderOf
+  order-short h = sym (rw (lt-leb 46596 (length r) h))
+
+  pub order-is : 46596 ≤ length r → inOrder (take 46596 r) ≡ true → 0 ≡ orderOf r
+  unfolding orderOf
+  order-is h f = sym (rw (le-leb 46596 (length r) h, f))
+
+  pub order-not : 46596 ≤ length r → inOrder (take 46596 r) ≡ false → 13 ≡ orderOf r
+  unfolding orderOf
+  order-not h f = sym (rw (le-leb 46596 (length r) h, f))

@@ -97,7 +97,7 @@ delete-bound l =
     (long-case (ltb 80 (length l)) l _ refl
     (λ h. pick-bound 80 (differs (lowestBarred l) 0) (refusal barredByte (lowestBarred l)) (ok (delete (take 11 (drop 2 l)) (drop 13 l))) (omega (arith, barred-bound 3 13 0 l)) (omega arith)))
 
-line-bound : (l : List ℕ) → columnOf (readLine l) ≤ 80
+pub line-bound : (l : List ℕ) → columnOf (readLine l) ≤ 80
 unfolding readLine
 line-bound l =
     pick-bound 80 (ltb (length l) 2) _ _ (omega arith)

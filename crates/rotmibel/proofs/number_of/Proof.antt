@@ -1,6 +1,6 @@
 use native.Mathlib.Omega.{arith}
-use mathlib.Core.Path.{subst}
-use Rattle.rotmibel.specs.Answers.{small}
+use mathlib.Core.Path.{subst, _∙_, ap, sym}
+use Rattle.rotmibel.specs.Answers.{small, numberIn}
 use borrow.Author.Needs.{needs}
 use Rattle.rotmibel.proofs.number_of.Statement.{statement}
 use Rattle.rotmibel.proofs.number_of.Tie as tie
@@ -8,36 +8,22 @@ use Rattle.rotmibel.proofs.number_of.Tie as tie
 enum-known-r : tie.Need-enum-known-r
 enum-known-r c = search needs
 
-mul-result : tie.Need-mul-result
-mul-result c = let h = subst small (c .before .r .given .1) (c .before .before .before .pre) in omega (arith, h)
+parts-of-requires : tie.Need-parts-of-requires
+parts-of-requires c κs = let h = subst small (c .before .r .given .1) (c .before .before .before .pre) in (omega arith, h)
 
 enum-known-r-2 : tie.Need-enum-known-r-2
 enum-known-r-2 c = search needs
 
-cast-result : tie.Need-cast-result
-cast-result c = search needs
-
-mul-result-2 : tie.Need-mul-result-2
-mul-result-2 c = let h = subst small (c .before .r2 .given .1) (c .before .before .before .pre) in omega (arith, h)
-
-add-result : tie.Need-add-result
-add-result c = let h = subst small (c .before .r2 .given .1) (c .before .before .before .pre) in omega (arith, h)
+parts-of-requires-2 : tie.Need-parts-of-requires-2
+parts-of-requires-2 c κs = let h = subst small (c .before .r2 .given .1) (c .before .before .before .pre) in (h, omega arith)
 
 returns : tie.Need-returns
-returns c = rw (c .before .r .given .1) (omega arith)
+returns c = c .parts-of .ensures ∙ sym (ap numberIn (c .before .before .r .given .1))
 
 returns-2 : tie.Need-returns-2
-returns-2 c = rw (c .before .r2 .given .1) (omega arith)
+returns-2 c = c .parts-of2 .ensures ∙ sym (ap numberIn (c .before .before .r2 .given .1))
 
 pub number-of-spec : {M : Type 1} → statement M
 number-of-spec =
     tie.close
-    (tie.spec
-    enum-known-r
-    mul-result
-    enum-known-r-2
-    cast-result
-    mul-result-2
-    add-result
-    returns
-    returns-2)
+    (tie.spec enum-known-r parts-of-requires enum-known-r-2 parts-of-requires-2 returns returns-2)
