@@ -30,3 +30,4 @@ pub mod RoomAt
 pub mod Sorts
 pub mod OrderRows
 pub mod InOrder
+pub mod Desk

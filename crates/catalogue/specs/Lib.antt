@@ -10,3 +10,4 @@ pub mod Splice
 pub mod Rows
 pub mod Plans
 pub mod Zeros
+pub mod Desk

@@ -1,4 +1,5 @@
 // The catalogue: one room of held E lines and deletions.
+pub mod desk;
 pub mod order;
 pub mod rows;
 pub mod splice;
