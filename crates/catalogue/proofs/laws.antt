@@ -33,3 +33,4 @@ pub mod OrderRows
 pub mod InOrder
 pub mod LookUp
 pub mod Answered
+pub mod Desk

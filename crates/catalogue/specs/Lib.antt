@@ -12,3 +12,4 @@ pub mod Rows
 pub mod Plans
 pub mod Zeros
 pub mod LookUp
+pub mod Desk

@@ -6,3 +6,4 @@ pub mod Record
 pub mod CubeRecord
 pub mod CubeRecordBack
 pub mod CubeFields
+pub mod Lines

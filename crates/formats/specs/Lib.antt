@@ -2,3 +2,4 @@ pub mod Check
 pub mod Cube
 pub mod Record
 pub mod CubeRecord
+pub mod Lines
