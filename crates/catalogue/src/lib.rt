@@ -1,6 +1,6 @@
 // The catalogue: one room of held E lines and deletions.
-pub mod look_up;
 pub mod desk;
+pub mod look_up;
 pub mod order;
 pub mod rows;
 pub mod splice;

@@ -4,7 +4,8 @@ ghost use mathlib.Core.Bool.{Bool, true, false};
 ghost use Prim.Native.Nat.{_+_, _*_, _-_, _≤_, _<_};
 ghost use lib.ListN.{length, take, drop};
 ghost use lib.Dec.{ltb};
-ghost use Rattle.catalogue.specs.Assoc.{below};
+ghost use Rattle.columns.specs.Answer.{pick};
+ghost use Rattle.catalogue.specs.Assoc.{below, AscFrom};
 ghost use Rattle.catalogue.specs.Room.{rows, ascends};
 ghost use Rattle.catalogue.specs.Rows.{two, eight, rowKey, Sought};
 
@@ -45,20 +46,29 @@ pub fn before(s: &[u8], at: usize, so: usize, src: u64, id: u64) -> bool
     b < id
 }
 
-// How many rows at the front have a key below the given one.
+fn choose(t: bool, a: usize, b: usize) -> usize
+    ensures { λ r. ⌜ r ≡ pick t a b ⌝ }
+{
+    if t {
+        return a;
+    }
+    b
+}
+
+// How many of the rows, which ascend, have a key below the given one: by halving the stretch that can hold the place.
 pub fn place(s: &[u8], base: usize, width: usize, so: usize, n: usize, src: u64, id: u64) -> usize
-    requires { ⌜ (base + width * n ≤ length (now s)) × (10 ≤ width) × (so + 2 ≤ width) × (width ≤ 80) × (n ≤ 65535) ⌝ }
+    requires { ⌜ (base + width * n ≤ length (now s)) × (10 ≤ width) × (so + 2 ≤ width) × (width ≤ 80) × (n ≤ 65535) × AscFrom (rowKey so) 0 (rows n width (drop base (now s))) ⌝ }
     ensures { λ r. ⌜ r ≡ below (rowKey so) (src * 18446744073709551616 + id) (rows n width (drop base (now (s .entry)))) ⌝ }
 {
-    let mut i = 0;
-    while i < n {
-        if before(s, base + width * i, so, src, id) {
-            i += 1;
-        } else {
-            return i;
-        }
+    let mut low = 0;
+    let mut high = n;
+    while low < high {
+        let mid = low + (high - low) / 2;
+        let less = before(s, base + width * mid, so, src, id);
+        low = choose(less, mid + 1, low);
+        high = choose(less, high, mid);
     }
-    i
+    low
 }
 
 // Whether the rows' keys ascend strictly.
@@ -89,7 +99,7 @@ pub enum Seek {
 }
 
 pub fn look(s: &[u8], base: usize, width: usize, so: usize, n: usize, src: u64, id: u64) -> Seek
-    requires { ⌜ (base + width * n ≤ length (now s)) × (10 ≤ width) × (so + 2 ≤ width) × (width ≤ 80) × (n ≤ 65535) ⌝ }
+    requires { ⌜ (base + width * n ≤ length (now s)) × (10 ≤ width) × (so + 2 ≤ width) × (width ≤ 80) × (n ≤ 65535) × AscFrom (rowKey so) 0 (rows n width (drop base (now s))) ⌝ }
     ensures { λ r. ⌜ Sought (rowKey so) (src * 18446744073709551616 + id) (rows n width (drop base (now (s .entry)))) r ⌝ }
 {
     let i = place(s, base, width, so, n, src, id);

@@ -11,8 +11,10 @@ use lib.Dec.{ltb, leb}
 use lib.ListN.{length, take, drop, getD, length-drop}
 use lib.Seq.{getD-drop, drop-drop, take-take}
 use Rattle.catalogue.specs.Rows.{two, eight, rowKey}
-use Rattle.catalogue.proofs.laws.Tri.{tri, less, same, more}
-use Rattle.catalogue.specs.Assoc.{below}
+use Rattle.catalogue.proofs.laws.Tri.{tri, less, same, more, le?, le, gt}
+use Rattle.columns.specs.Answer.{pick}
+use Rattle.catalogue.proofs.laws.Splice.{below-less, below-not, below-le}
+use Rattle.catalogue.specs.Assoc.{below, AscFrom}
 use Rattle.catalogue.specs.Room.{rows, ascends}
 
 -- the first bytes of a list, written out
@@ -192,3 +194,72 @@ digits-eq B a b x y e hb hy =
       | same h ↦ let q : a * B ≡ x * B = ap (λ (t : ℕ). t * B) h in (h, omega arith)
       | more h ↦ absurd (omega (arith, mul-le-mul-right B h))
     ]
+
+-- ---- the place of a key, by halves
+
+module _ (key : List ℕ → ℕ) where
+  -- a key at or above the given one is not before its place
+  below-low : (xs : List (List ℕ)) (k i : ℕ) → i < length xs → k ≤ key (getD xs i []) → below key k xs ≤ i
+  below-low [] k i h q = absurd (omega arith)
+  below-low (x ∷ xs) k zero h q = rw (below-not key x xs k q) (omega arith)
+  below-low (x ∷ xs) k (suc i) h q =
+      elim (le? k (key x)) [
+        | le p ↦ rw (below-not key x xs k p) (omega arith)
+        | gt p ↦ rw (below-less key x xs k p) (omega (arith, below-low xs k i (omega arith) q))
+      ]
+
+  -- in ascending keys, one below the given one is before its place
+  asc-at : (xs : List (List ℕ)) (b i : ℕ) → AscFrom key b xs → i < length xs → b ≤ key (getD xs i [])
+  asc-at [] b i a h = absurd (omega arith)
+  asc-at (x ∷ xs) b zero a h = a .0
+  asc-at (x ∷ xs) b (suc i) a h = omega (arith, a .0, asc-at xs (suc (key x)) i (a .1) (omega arith))
+
+  below-high : (xs : List (List ℕ)) (b k i : ℕ) → AscFrom key b xs → i < length xs → key (getD xs i []) < k → i < below key k xs
+  below-high [] b k i a h q = absurd (omega arith)
+  below-high (x ∷ xs) b k zero a h q = rw (below-less key x xs k q) (omega arith)
+  below-high (x ∷ xs) b k (suc i) a h q =
+      let p : key x < k = omega (arith, asc-at xs (suc (key x)) i (a .1) (omega arith)) in
+      rw (below-less key x xs k p) (omega (arith, below-high xs (suc (key x)) k i (a .1) (omega arith) q))
+
+-- a stretch of the first n that has a place in it
+pub record Stretch (place n low high : ℕ) : Type 0 where
+  pub from : low ≤ place
+  pub to : place ≤ high
+  pub end : high ≤ n
+
+-- one turn: the place stays in the stretch
+module _ (s : List ℕ) (base w so n k : ℕ) (wide : 10 ≤ w) (inside : so + 2 ≤ w) (asc : AscFrom (rowKey so) 0 (rows n w (drop base s))) where
+  row-key-at : (i : ℕ) → i < n → rowKey so (getD (rows n w (drop base s)) i []) ≡ rowKey so (drop (base + w * i) s)
+  row-key-at i h = ap (rowKey so) (rows-at n w i (drop base s) h ∙ ap (take w) (drop-drop (w * i) base s)) ∙ row-key-take so w (drop (base + w * i) s) wide inside
+
+  abbrev place : ℕ
+  place = below (rowKey so) k (rows n w (drop base s))
+
+  halved-high : (low high mid : ℕ) → Stretch place n low high → mid < high → ltb (rowKey so (drop (base + w * mid) s)) k ≡ true → Stretch place n (mid + 1) high
+  halved-high low high mid z q f =
+      let m : mid < n = omega (arith, z .end) in
+      let c : length (rows n w (drop base s)) ≡ n = rows-count n w (drop base s) in
+      let l : rowKey so (getD (rows n w (drop base s)) mid []) < k = omega (arith, row-key-at mid m, ltb-true (rowKey so (drop (base + w * mid) s)) k f) in
+      record { from = omega (arith, below-high (rowKey so) (rows n w (drop base s)) 0 k mid asc (omega (arith, c)) l); to = z .to; end = z .end }
+
+  halved-low : (low high mid : ℕ) → Stretch place n low high → mid < high → ltb (rowKey so (drop (base + w * mid) s)) k ≡ false → Stretch place n low mid
+  halved-low low high mid z q f =
+      let m : mid < n = omega (arith, z .end) in
+      let c : length (rows n w (drop base s)) ≡ n = rows-count n w (drop base s) in
+      let l : k ≤ rowKey so (getD (rows n w (drop base s)) mid []) = omega (arith, row-key-at mid m, ltb-false (rowKey so (drop (base + w * mid) s)) k f) in
+      record { from = z .from; to = below-low (rowKey so) (rows n w (drop base s)) k mid (omega (arith, c)) l; end = omega (arith, z .end) }
+
+  pub whole-stretch : Stretch place n 0 n
+  whole-stretch = record { from = omega arith; to = omega (arith, below-le (rowKey so) k (rows n w (drop base s)), rows-count n w (drop base s)); end = omega arith }
+
+  pub halved : (low high mid : ℕ) (t : Bool) → Stretch place n low high → low ≤ mid → mid < high → t ≡ ltb (rowKey so (drop (base + w * mid) s)) k → Stretch place n (pick t (mid + 1) low) (pick t high mid)
+  halved low high mid t z p q e = by-test t refl
+    where
+      by-test : (u : Bool) → t ≡ u → Stretch place n (pick u (mid + 1) low) (pick u high mid)
+      by-test true f = halved-high low high mid z q (sym e ∙ f)
+      by-test false f = halved-low low high mid z q (sym e ∙ f)
+
+-- the stretch grows shorter
+pub shorter : (t : Bool) (low high mid : ℕ) → low ≤ mid → mid < high → pick t high mid - pick t (mid + 1) low < high - low
+shorter true low high mid p q = omega arith
+shorter false low high mid p q = omega arith

@@ -1,4 +1,4 @@
--- The rows and keys that the wordOf reads, as the catalogue has them.
+-- The rows and keys that the code reads, as the catalogue has them.
 use Rattle.formats.specs.Record.{wordOf}
 use Prim.Native.Nat.{ℕ, _+_, _*_, _≤_, _<_}
 use mathlib.Core.Path.{_≡_, refl, sym, _∙_, ap, ap₂, subst}
@@ -7,9 +7,10 @@ use native.Mathlib.Omega.{arith}
 use lib.ListN.{length, take, drop, getD}
 use lib.Seq.{take-add, getD-take, getD-drop, drop-drop}
 use Rattle.catalogue.specs.Line.{pair, key, version, deletionKey, deletionVersion}
-use Rattle.catalogue.specs.Room.{contents}
+use Rattle.catalogue.specs.Assoc.{AscFrom}
+use Rattle.catalogue.specs.Room.{rows, contents}
 use Rattle.catalogue.specs.Ordered.{Ordered}
-use Rattle.catalogue.proofs.laws.View.{held-rows, deletion-rows}
+use Rattle.catalogue.proofs.laws.View.{held-rows, deletion-rows, view-good}
 use Rattle.catalogue.specs.Rows.{two, eight, rowKey, Sought}
 use Rattle.catalogue.specs.declared.rows.Seek.{Seek}
 use Rattle.catalogue.proofs.laws.Keys.{row-key, rows-at}
@@ -47,3 +48,14 @@ sought-as f g j k xs ys s p q e h =
 pub row-is : (r : List ℕ) (o : Ordered r) (n i : ℕ) → n ≡ two r 0 → i < n → take 80 (drop (2 + 80 * i) r) ≡ getD (contents r .held) i []
 row-is r o n i e h =
     sym (ap (λ (hs : List (List ℕ)). getD hs i []) (held-rows r o n e) ∙ rows-at n 80 i (drop 2 r) h ∙ ap (take 80) (drop-drop (80 * i) 2 r))
+
+-- both sections ascend, as the code reads them
+module _ (r : List ℕ) (o : Ordered r) (n : ℕ) (en : n ≡ two r 0) where
+  pub held-asc : AscFrom (rowKey 10) 0 (rows n 80 (drop 2 r))
+  held-asc = subst (λ (f : List ℕ → ℕ). AscFrom f 0 (rows n 80 (drop 2 r))) (sym held-row) (subst (AscFrom key 0) (held-rows r o n en) (view-good r o .held-ascends))
+
+  pub deletion-asc : (m : ℕ) → m ≡ two r (2 + 80 * n) → AscFrom (rowKey 0) 0 (rows m 11 (drop (4 + 80 * n) r))
+  deletion-asc m em = subst (λ (f : List ℕ → ℕ). AscFrom f 0 (rows m 11 (drop (4 + 80 * n) r))) (sym deletion-row) (subst (AscFrom deletionKey 0) (deletion-rows r o n en m em) (view-good r o .deletion-ascends))
+
+pub deletion-row-asc : (xs : List (List ℕ)) → AscFrom deletionKey 0 xs → AscFrom (rowKey 0) 0 xs
+deletion-row-asc xs a = subst (λ (f : List ℕ → ℕ). AscFrom f 0 xs) (sym deletion-row) a

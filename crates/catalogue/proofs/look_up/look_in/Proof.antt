@@ -1,3 +1,4 @@
+use Rattle.catalogue.proofs.laws.RoomAt.{held-asc}
 use mathlib.Core.Path.{subst, _∙_}
 use Prim.Native.Nat.{_+_, _*_}
 use lib.ListN.{drop}
@@ -18,7 +19,7 @@ word8-requires : tie.Need-word8-requires
 word8-requires c κs = search needs
 
 look-requires : tie.Need-look-requires
-look-requires c κs = search needs
+look-requires c κs = search (needs, held-asc (c .before .before .before .before .before .args .room .now) (c .before .before .before .before .before .pre .0) (c .before .before .held .result) (c .before .before .held .ensures .0))
 
 enum-known-place : tie.Need-enum-known-place
 enum-known-place c = search needs

@@ -1,3 +1,4 @@
+use Rattle.catalogue.proofs.laws.RoomAt.{deletion-row-asc}
 use Rattle.catalogue.proofs.laws.Sorts.{kind-told}
 use native.Mathlib.Omega.{arith}
 use mathlib.Core.Path.{refl, sym, _∙_, ap, subst}
@@ -48,7 +49,7 @@ word8-requires : tie.Need-word8-requires
 word8-requires c κs = search needs
 
 look-requires : tie.Need-look-requires
-look-requires c κs = search needs
+look-requires c κs = search (needs, deletion-row-asc (rows (c .before .before .before .before .before .before .before .args .m) 11 (drop (c .before .before .before .before .before .before .before .args .g) (c .before .before .before .before .before .before .before .args .s .now))) (c .before .before .before .before .before .before .before .pre .3))
 
 enum-told-5 : tie.Need-enum-told-5
 enum-told-5 c = search needs

@@ -1,10 +1,11 @@
+use Rattle.catalogue.proofs.laws.RoomAt.{deletion-row-asc}
+use Rattle.catalogue.specs.Room.{rows}
+use lib.ListN.{drop}
 use native.Mathlib.Omega.{arith}
 use mathlib.Core.Path.{_∙_, ap, subst}
 use mathlib.Core.List.{List}
 use Prim.Native.Nat.{ℕ, _+_, _*_}
-use lib.ListN.{drop}
 use denote.Ref.{now}
-use Rattle.catalogue.specs.Room.{rows}
 use Rattle.catalogue.specs.Rows.{Sought, rowKey, two, eight}
 use Rattle.catalogue.proofs.laws.OrderRows.{part-row, one-missing, one-found}
 use borrow.Author.Needs.{needs}
@@ -30,7 +31,7 @@ word8-requires : tie.Need-word8-requires
 word8-requires c κs = search needs
 
 look-requires : tie.Need-look-requires
-look-requires c κs = search needs
+look-requires c κs = search (needs, deletion-row-asc (rows (c .before .before .before .before .args .m) 11 (drop (c .before .before .before .before .args .g) (c .before .before .before .before .args .s .now))) (c .before .before .before .before .pre .3))
 
 enum-told : tie.Need-enum-told
 enum-told c = search needs

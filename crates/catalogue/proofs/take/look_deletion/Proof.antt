@@ -1,10 +1,10 @@
+use Rattle.catalogue.proofs.laws.RoomAt.{deletion-asc, deletion-row, line-key, sought-as}
 use mathlib.Core.Path.{sym}
 use mathlib.Core.List.{List}
 use Prim.Native.Nat.{ℕ, _+_, _*_}
 use lib.ListN.{drop}
 use denote.Ref.{now}
 use Rattle.catalogue.proofs.laws.View.{deletion-rows}
-use Rattle.catalogue.proofs.laws.RoomAt.{deletion-row, line-key, sought-as}
 use Rattle.catalogue.specs.Line.{key, deletionKey}
 use Rattle.catalogue.specs.Rows.{rowKey}
 use Rattle.catalogue.specs.Room.{rows, contents}
@@ -31,7 +31,7 @@ add-look : tie.Need-add-look
 add-look c = search needs
 
 look-requires : tie.Need-look-requires
-look-requires c κs = search needs
+look-requires c κs = search (needs, deletion-asc (c .before .before .before .before .before .before .args .room .now) (c .before .before .before .before .before .before .pre .0) (c .before .before .before .held .result) (c .before .before .before .held .ensures .0) (c .before .before .deletions .result) (c .before .before .deletions .ensures .0))
 
 returns : tie.Need-returns
 returns c =

@@ -1,10 +1,10 @@
+use Rattle.catalogue.proofs.laws.RoomAt.{held-asc, held-row, line-key, sought-as}
 use mathlib.Core.Path.{sym}
 use mathlib.Core.List.{List}
 use Prim.Native.Nat.{ℕ, _+_, _*_}
 use lib.ListN.{drop}
 use denote.Ref.{now}
 use Rattle.catalogue.proofs.laws.View.{held-rows}
-use Rattle.catalogue.proofs.laws.RoomAt.{held-row, line-key, sought-as}
 use Rattle.catalogue.specs.Line.{key}
 use Rattle.catalogue.specs.Rows.{rowKey}
 use Rattle.catalogue.specs.Room.{rows, contents}
@@ -22,7 +22,7 @@ word8-requires : tie.Need-word8-requires
 word8-requires c κs = search needs
 
 look-requires : tie.Need-look-requires
-look-requires c κs = search needs
+look-requires c κs = search (needs, held-asc (c .before .before .before .before .before .args .room .now) (c .before .before .before .before .before .pre .0) (c .before .before .held .result) (c .before .before .held .ensures .0))
 
 returns : tie.Need-returns
 returns c =
