@@ -11,8 +11,8 @@
  * WHAT EVERY CALL RETURNS: one number in three parts.
  *   bits  0 to  7   the answer, ROTMIBEL_READ or one of the refusals below
  *   bits  8 to 23   the column of a refusal, from 1; 0 where the refusal names none
- *   bits 24 to 47   the number of bytes written to the lent buffer, 0 after a refusal
- * After a refusal nothing lent has changed. Otherwise only the bytes written have.
+ *   bits 24 to 47   the number of bytes written to the lent buffer, or the place of a look-up; 0 after a refusal
+ * After a refusal (answers 1 to 19) nothing lent has changed. Otherwise only the bytes written have.
  */
 #ifndef ROTMIBEL_H
 #define ROTMIBEL_H
@@ -39,11 +39,25 @@ extern "C" {
 #define ROTMIBEL_RANGE 7     /* a number out of its range; the field's first column */
 #define ROTMIBEL_CHECK 9     /* the check character; column 80 */
 #define ROTMIBEL_WIDE 10     /* a number too wide for its field when written; the field's first column */
-#define ROTMIBEL_SHORT 11    /* the lent buffer is too short; column 0 */
+#define ROTMIBEL_SHORT 11    /* the lent buffer or room is too short; column 0 */
+#define ROTMIBEL_FULL 12     /* a new pair while the catalogue names 512; column 0 */
+#define ROTMIBEL_DISORDER 13 /* the room is no catalogue in order; column 0 */
 
-/* Sizes: a record of either kind, the longest CUBE line. */
+/* Answers of the catalogue: what became of a line, and what a look-up found. */
+#define ROTMIBEL_STORED 20       /* E: nothing was held for its pair, the line is now */
+#define ROTMIBEL_REPLACED 21     /* E: the held line was of a lower version, or of the same with other bytes; it is replaced */
+#define ROTMIBEL_REPEATED 22     /* E: this very line is held; nothing changes */
+#define ROTMIBEL_OUTDATED 23     /* a deletion or a held line is at or above the version; nothing changes */
+#define ROTMIBEL_REMOVED 24      /* DE: the held line is removed, its deletion stored */
+#define ROTMIBEL_NOTED 25        /* DE: nothing held at or below its version; its deletion is stored */
+#define ROTMIBEL_NOTHING_HELD 26 /* DE with a blank version: nothing held; nothing changes */
+#define ROTMIBEL_HELD 27         /* look-up: held, with its place from 0 */
+#define ROTMIBEL_NOT_HELD 28     /* look-up: not held */
+
+/* Sizes: a record of either kind, the longest CUBE line, the room of a catalogue. */
 #define ROTMIBEL_RECORD 268
 #define ROTMIBEL_LINE 80
+#define ROTMIBEL_ROOM 46596
 
 /* Kinds, a record's first byte. */
 #define ROTMIBEL_EVENT 1
@@ -72,6 +86,40 @@ uint64_t rotmibel_read_line(const uint8_t *line, size_t line_len, uint8_t *recor
  * length. What is written reads back to the same record.
  */
 uint64_t rotmibel_write_line(const uint8_t *record, size_t record_len, uint8_t *line, size_t line_len);
+
+/*
+ * The catalogue lives in a room, ROTMIBEL_ROOM bytes that the caller keeps, saves and loads as he likes. A zeroed room is an empty
+ * catalogue. Of a longer room only the first ROTMIBEL_ROOM bytes are looked at and changed. Two rooms that took the same acceptable
+ * lines, in any order and with any repeats, are equal byte for byte (docs/PROMISES.md has the premises).
+ *
+ * A room holds, in this order: the number of held lines (2 bytes, high byte first), the held E lines (80 bytes each), the number of
+ * deletions (2 bytes), the deletions (11 bytes each: source, identifier, version), zeros. Both parts ascend by source, then
+ * identifier.
+ */
+
+/*
+ * Take a line into a catalogue. The whole room is checked first, so any bytes may be handed over.
+ *
+ * room, room_len  the catalogue
+ * line, line_len  an E or DE line
+ *
+ * Answers, looked for in this order: SHORT (room_len); DISORDER; the refusals of rotmibel_read_line for the line, with their column;
+ * FULL (but not where NOTHING_HELD is the answer); else STORED to NOTHING_HELD. REPEATED, OUTDATED, NOTHING_HELD and refusals change
+ * nothing.
+ */
+uint64_t rotmibel_take(uint8_t *room, size_t room_len, const uint8_t *line, size_t line_len);
+
+/*
+ * Look a pair up. The held line at place p (ROTMIBEL_LENGTH of what is returned) is the 80 bytes from room + 2 + 80 * p on.
+ *
+ * Answers, looked for in this order: SHORT; DISORDER; BAD_LENGTH (a source not of 2 bytes or an identifier not of 8); HELD with its
+ * place, or NOT_HELD. Nothing is changed.
+ */
+uint64_t rotmibel_look_up(const uint8_t *room, size_t room_len, const uint8_t *source, size_t source_len,
+                          const uint8_t *identifier, size_t identifier_len);
+
+/* Whether a room is a catalogue in order: READ (0), or SHORT or DISORDER. Nothing is changed. */
+uint64_t rotmibel_in_order(const uint8_t *room, size_t room_len);
 
 /* Whether number `index` (from 0) of an event's record is there. */
 static inline int rotmibel_has_number(const uint8_t *record, unsigned index) { return record[1 + index] != 0; }

@@ -12,4 +12,5 @@ pub mod Rows
 pub mod Plans
 pub mod Zeros
 pub mod LookUp
+pub mod Demand
 pub mod Desk

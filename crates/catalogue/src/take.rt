@@ -368,10 +368,10 @@ pub fn sort_of(line: &[u8]) -> Sort
     Sort::Event
 }
 
-// A line, taken into a room in order.
+// A line, taken into a room in order, which stays in order. No whole-room check is made.
 pub fn take_ordered(room: &mut [u8], line: &[u8]) -> Call
     requires { ⌜ Ordered (now room) ⌝ }
-    ensures { λ r. ⌜ (r ≡ callOf (now (room .entry)) (now (line .entry))) × (now (room .exit) ≡ roomAfter (now (room .entry)) (now (line .entry))) ⌝ }
+    ensures { λ r. ⌜ (r ≡ callOf (now (room .entry)) (now (line .entry))) × (now (room .exit) ≡ roomAfter (now (room .entry)) (now (line .entry))) × Ordered (now (room .exit)) ⌝ }
 {
     match sort_of(line) {
         Sort::Event => Call {

@@ -121,6 +121,9 @@ ordered-after r l o =
       fine = rw (take-at (encode c) (drop 46596 r) 46596 n, contents-encode c s, good-back c G) (same-bytes-self (encode c));
     })
 
+pub kept : (r l : List ℕ) → Ordered r → (to : List ℕ) → to ≡ roomAfter r l → Ordered to
+kept r l o to e = subst Ordered (sym e) (ordered-after r l o)
+
 -- the layout of a good catalogue is in order, and says that catalogue
 module _ (c : Catalogue) (G : Good c) (z : List ℕ) where
   pub encoded-ordered : Ordered (encode c ++ z)

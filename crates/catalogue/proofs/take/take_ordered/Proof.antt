@@ -1,3 +1,4 @@
+use Rattle.catalogue.proofs.laws.View.{kept}
 use mathlib.Core.Path.{sym, _∙_}
 use Rattle.catalogue.proofs.laws.Sorts.{kind-told, called, refused-done, event-accepted, delete-accepted, blank-accepted}
 use borrow.Author.Needs.{needs}
@@ -34,7 +35,7 @@ same-length c = search needs
 returns : tie.Need-returns
 returns c =
     let a = c .before .before .before .before .before .before .before .before .before .args in
-    (called (a .room .now) (c .before .before .before .before .before .before .before .before .before .pre) (a .line .now) _ (event-accepted (a .line .now) (kind-told _ _ _ (c .before .before .before .before .enum-told .given .1) (c .before .before .before .before .before .before .sort-of .ensures))) (c .before .before .take-event .ensures .0), c .before .before .take-event .ensures .1)
+    (called (a .room .now) (c .before .before .before .before .before .before .before .before .before .pre) (a .line .now) _ (event-accepted (a .line .now) (kind-told _ _ _ (c .before .before .before .before .enum-told .given .1) (c .before .before .before .before .before .before .sort-of .ensures))) (c .before .before .take-event .ensures .0), c .before .before .take-event .ensures .1, kept (a .room .now) (a .line .now) (c .before .before .before .before .before .before .before .before .before .pre) _ (c .before .before .take-event .ensures .1))
 
 same-length-2 : tie.Need-same-length-2
 same-length-2 c = search needs
@@ -42,7 +43,7 @@ same-length-2 c = search needs
 returns-2 : tie.Need-returns-2
 returns-2 c =
     let a = c .before .before .before .before .before .before .before .before .before .args in
-    (called (a .room .now) (c .before .before .before .before .before .before .before .before .before .pre) (a .line .now) _ (delete-accepted (a .line .now) (kind-told _ _ _ (c .before .before .before .before .enum-told2 .given .1) (c .before .before .before .before .before .before .sort-of .ensures))) (c .before .before .take-delete .ensures .0), c .before .before .take-delete .ensures .1)
+    (called (a .room .now) (c .before .before .before .before .before .before .before .before .before .pre) (a .line .now) _ (delete-accepted (a .line .now) (kind-told _ _ _ (c .before .before .before .before .enum-told2 .given .1) (c .before .before .before .before .before .before .sort-of .ensures))) (c .before .before .take-delete .ensures .0), c .before .before .take-delete .ensures .1, kept (a .room .now) (a .line .now) (c .before .before .before .before .before .before .before .before .before .pre) _ (c .before .before .take-delete .ensures .1))
 
 same-length-3 : tie.Need-same-length-3
 same-length-3 c = search needs
@@ -50,12 +51,13 @@ same-length-3 c = search needs
 returns-3 : tie.Need-returns-3
 returns-3 c =
     let a = c .before .before .before .before .before .before .before .before .before .args in
-    (called (a .room .now) (c .before .before .before .before .before .before .before .before .before .pre) (a .line .now) _ (blank-accepted (a .line .now) (kind-told _ _ _ (c .before .before .before .before .enum-told3 .given .1) (c .before .before .before .before .before .before .sort-of .ensures))) (c .before .before .take-blank .ensures .0), c .before .before .take-blank .ensures .1)
+    (called (a .room .now) (c .before .before .before .before .before .before .before .before .before .pre) (a .line .now) _ (blank-accepted (a .line .now) (kind-told _ _ _ (c .before .before .before .before .enum-told3 .given .1) (c .before .before .before .before .before .before .sort-of .ensures))) (c .before .before .take-blank .ensures .0), c .before .before .take-blank .ensures .1, kept (a .room .now) (a .line .now) (c .before .before .before .before .before .before .before .before .before .pre) _ (c .before .before .take-blank .ensures .1))
 
 returns-4 : tie.Need-returns-4
 returns-4 c =
     let a = c .before .before .before .before .before .before .args in
-    refused-done (a .room .now) (c .before .before .before .before .before .before .pre) (a .line .now) _ _ (sym (c .before .number .given .1) ∙ c .before .before .before .sort-of .ensures)
+    let f = refused-done (a .room .now) (c .before .before .before .before .before .before .pre) (a .line .now) _ _ (sym (c .before .number .given .1) ∙ c .before .before .before .sort-of .ensures) in
+    (f .0, f .1, c .before .before .before .before .before .before .pre)
 
 pub take-ordered-spec : {M : Type 1} → statement M
 take-ordered-spec =
