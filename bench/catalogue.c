@@ -6,12 +6,6 @@
 #include <string.h>
 #include <time.h>
 
-/* The catalogue's calls, until rotmibel.h declares them. */
-uint64_t rotmibel_take(uint8_t *room, size_t room_len, const uint8_t *line, size_t line_len);
-uint64_t rotmibel_look_up(const uint8_t *room, size_t room_len, const uint8_t *source, size_t source_len, const uint8_t *identifier,
-                          size_t identifier_len);
-uint64_t rotmibel_in_order(const uint8_t *room, size_t room_len);
-
 #define ROOM 46596
 #define PAIRS 512
 #define HELD 80

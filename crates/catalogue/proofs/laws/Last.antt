@@ -1,7 +1,7 @@
 -- A list whose E lines may share source, identifier and version and yet differ: the catalogue after it holds the last one received.
 use Rattle.columns.specs.Answer.{pick}
-use Rattle.formats.specs.Record.{sameBytes, wordOf}
-use Prim.Native.Nat.{ℕ, suc, _≤_, _<_, zero-le}
+use Rattle.formats.specs.Record.{wordOf}
+use Prim.Native.Nat.{ℕ, _≤_, _<_}
 use mathlib.Core.Path.{_≡_, refl, sym, _∙_, ap, subst}
 use mathlib.Core.Logic.{_⊎_, inl, inr}
 use mathlib.Core.Bool.{Bool, true, false, _&&_}
@@ -16,11 +16,11 @@ use Rattle.catalogue.specs.Line.{Kind, event, delete, blank, refused, ki
 use Rattle.catalogue.specs.Catalogue.{Catalogue, Taken, named, empty, ifRoom, takeAbove, takeEvent, deleteAbove, takeDelete, takeKind, step, run}
 use Rattle.catalogue.specs.FromSet.{Of, DeletionIs, HeldIs, IsCatalogueOf}
 use Rattle.catalogue.specs.Lists.{Occurs, Acceptable, Settled}
-use Rattle.catalogue.specs.Maxima.{sameKind, higher, highest, deletionFor, heldFor, keys, collectAt, collect, fromSet}
+use Rattle.catalogue.specs.Maxima.{sameKind, higher, highest, deletionFor, heldFor, keys, fromSet}
 use Rattle.catalogue.specs.Last.{later, lastHighest, lastCatalogue, Bounded}
 use Rattle.catalogue.specs.Room.{encode, feed}
 use Rattle.catalogue.proofs.laws.Tri.{eq, ne, eq?}
-use Rattle.catalogue.proofs.laws.Assoc.{find-here, find-there, find-below, find-put-same, find-put-other, find-remove-same, find-remove-other, put-asc, asc-weaken, ext}
+use Rattle.catalogue.proofs.laws.Assoc.{find-put-same, find-put-other, find-remove-same, find-remove-other, ext}
 use Rattle.catalogue.proofs.laws.Line.{whole, and-both, deletion-eq, deletion-key, deletion-version}
 use Rattle.catalogue.proofs.laws.Grow.{Add, each}
 use Rattle.catalogue.proofs.laws.Step.{step-is, same-bytes-true}
@@ -28,36 +28,10 @@ use Rattle.catalogue.proofs.laws.Bound.{room-for, named-few, held-few, 
 use Rattle.catalogue.proofs.laws.Unique.{same-set}
 use Rattle.catalogue.proofs.laws.Good.{good-true, shaped}
 use Rattle.catalogue.proofs.laws.Order.{empty-is, map-mem}
-use Rattle.catalogue.proofs.laws.Maxima.{run-from-set}
+use Rattle.catalogue.proofs.laws.Maxima.{same-kind-true, same-kind-self, collect-asc, collected, keys-asc, of-listed, run-from-set}
 use Rattle.catalogue.proofs.laws.Feed.{room-step, feed-run}
 
 -- ---- a line is of a kind and a key, or is not
-
-same-kind-true : (s t : Kind) → sameKind s t ≡ true → s ≡ t
-unfolding sameKind
-same-kind-true event event h = refl
-same-kind-true event delete h = cc
-same-kind-true event blank h = cc
-same-kind-true event refused h = cc
-same-kind-true delete event h = cc
-same-kind-true delete delete h = refl
-same-kind-true delete blank h = cc
-same-kind-true delete refused h = cc
-same-kind-true blank event h = cc
-same-kind-true blank delete h = cc
-same-kind-true blank blank h = refl
-same-kind-true blank refused h = cc
-same-kind-true refused event h = cc
-same-kind-true refused delete h = cc
-same-kind-true refused blank h = cc
-same-kind-true refused refused h = refl
-
-same-kind-self : (t : Kind) → sameKind t t ≡ true
-unfolding sameKind
-same-kind-self event = refl
-same-kind-self delete = refl
-same-kind-self blank = refl
-same-kind-self refused = refl
 
 data Fits (t : Kind) (k : ℕ) (x : List ℕ) : Type 0 where
   fits : kind x ≡ t → key x ≡ k → (sameKind (kind x) t && eqb (key x) k) ≡ true → Fits t k x
@@ -185,67 +159,7 @@ follows-agree ls ms c f g F = record {
 
 -- ---- the computed catalogue follows its list
 
-module _ (key : List ℕ → ℕ) (f : ℕ → Option (List ℕ)) (keyed : (k : ℕ) (e : List ℕ) → f k ≡ some e → key e ≡ k) where
-  at-asc : (k b : ℕ) (o : Option (List ℕ)) (xs : List (List ℕ)) → f k ≡ o → b ≤ k → AscFrom key (suc k) xs → AscFrom key b (collectAt o xs)
-  unfolding collectAt
-  at-asc k b none xs e h s = asc-weaken key xs (omega arith) s
-  at-asc k b (some x) xs e h s = let q = keyed k x e in (omega arith, asc-weaken key xs (omega arith) s)
-
-  collect-asc : (ks : List ℕ) (b : ℕ) → AscFrom (λ (k : ℕ). k) b ks → AscFrom key b (collect f ks)
-  unfolding collect
-  collect-asc [] b s = tt
-  collect-asc (k ∷ ks) b s = at-asc k b (f k) (collect f ks) refl (s .0) (collect-asc ks (suc k) (s .1))
-
-  at-same : (k : ℕ) (o : Option (List ℕ)) (xs : List (List ℕ)) → f k ≡ o → AscFrom key (suc k) xs → find key k (collectAt o xs) ≡ o
-  unfolding collectAt
-  at-same k none xs e s = find-below key xs (suc k) k s (omega arith)
-  at-same k (some x) xs e s = find-here key x xs k (keyed k x e)
-
-  at-other : (k j : ℕ) (o : Option (List ℕ)) (xs : List (List ℕ)) → f k ≡ o → (k ≡ j → ⊥) → find key j (collectAt o xs) ≡ find key j xs
-  unfolding collectAt
-  at-other k j none xs e n = refl
-  at-other k j (some x) xs e n = find-there key x xs j (λ (q : key x ≡ j). n (sym (keyed k x e) ∙ q))
-
-  collect-find : (ks : List ℕ) (b j : ℕ) → AscFrom (λ (k : ℕ). k) b ks → (f j ≡ none) ⊎ (find (λ (k : ℕ). k) j ks ≡ some j) → find key j (collect f ks) ≡ f j
-  unfolding collect find
-  collect-find [] b j s (inl e) = sym e
-  collect-find [] b j s (inr m) = let z : _≡_ {A = ℕ} 0 1 = cc in absurd (omega arith)
-  collect-find (k ∷ ks) b j s m =
-      elim (eq? k j) [
-        | eq q ↦ subst (λ (u : ℕ). find key u (collectAt (f k) (collect f ks)) ≡ f u) q (at-same k (f k) (collect f ks) refl (collect-asc ks (suc k) (s .1)))
-        | ne q ↦
-            at-other k j (f k) (collect f ks) refl q
-            ∙ collect-find ks (suc k) j (s .1) (elim m [ inl e ↦ inl e | inr g ↦ inr (sym (find-there (λ (u : ℕ). u) k ks j q) ∙ g) ])
-      ]
-
-  -- what is found is what was to be collected, where each key with something to collect is listed
-  collected : (ks : List ℕ) (j : ℕ) → AscFrom (λ (k : ℕ). k) 0 ks → ((e : List ℕ) → f j ≡ some e → find (λ (k : ℕ). k) j ks ≡ some j) → find key j (collect f ks) ≡ f j
-  collected ks j s m = go (f j) refl
-    where
-      go : (o : Option (List ℕ)) → f j ≡ o → find key j (collect f ks) ≡ f j
-      go none e = collect-find ks 0 j s (inl e)
-      go (some x) e = collect-find ks 0 j s (inr (m x e))
-
-keys-asc : (ls : List (List ℕ)) → AscFrom (λ (k : ℕ). k) 0 (keys ls)
-unfolding keys
-keys-asc [] = tt
-keys-asc (l ∷ ls) = put-asc (λ (k : ℕ). k) (key l) (keys ls) 0 zero-le (keys-asc ls)
-
-keys-listed : (ls : List (List ℕ)) (x : List ℕ) → Occurs ls x → find (λ (k : ℕ). k) (key x) (keys ls) ≡ some (key x)
-unfolding keys
-keys-listed [] x m = absurd (List·Memᴰ·not-nil m)
-keys-listed (l ∷ ls) x m =
-    elim (eq? (key l) (key x)) [
-      | eq q ↦ find-put-same (λ (k : ℕ). k) (key l) (keys ls) (key x) q ∙ ap some q
-      | ne q ↦
-          find-put-other (λ (k : ℕ). k) (key l) (keys ls) (key x) q
-          ∙ keys-listed ls x (elim (List·Memᴰ·cases-cons m) [ inl e ↦ absurd (q (ap key (sym e))) | inr t ↦ t ])
-    ]
-
 module _ (ls : List (List ℕ)) where
-  of-listed : {t : Kind} {k : ℕ} {x : List ℕ} → Of (Occurs ls) t k x → find (λ (j : ℕ). j) k (keys ls) ≡ some k
-  of-listed {x = x} o = subst (λ (j : ℕ). find (λ (i : ℕ). i) j (keys ls) ≡ some j) (o .is-key) (keys-listed ls x (o .inside))
-
   held-of : (k : ℕ) (o d : Option (List ℕ)) (e : List ℕ) → BestIs ls event k o → heldFor o d ≡ some e → Of (Occurs ls) event k e
   unfolding heldFor
   held-of k none d e h q = let z : _≡_ {A = ℕ} 0 1 = cc in absurd (omega arith)
@@ -261,7 +175,7 @@ module _ (ls : List (List ℕ)) where
   deletion-of k none e h q = let z : _≡_ {A = ℕ} 0 1 = cc in absurd (omega arith)
   deletion-of k (some x) e h q =
       let r : e ≡ deletion x = cc in
-      (ap deletionKey r ∙ deletion-key x (whole x (delete-ok (h .0))) ∙ h .0 .is-key, of-listed (h .0))
+      (ap deletionKey r ∙ deletion-key x (whole x (delete-ok (h .0))) ∙ h .0 .is-key, of-listed ls (h .0))
 
   -- what stands for a key in each section
   abbrev heldAt : ℕ → Option (List ℕ)
@@ -282,7 +196,7 @@ module _ (ls : List (List ℕ)) where
       record {
         held-ascends = collect-asc key heldAt a (keys ls) 0 (keys-asc ls);
         deletion-ascends = collect-asc deletionKey deletedAt b (keys ls) 0 (keys-asc ls);
-        held-found = λ (k : ℕ). collected key heldAt a (keys ls) k (keys-asc ls) (λ (e : List ℕ) (q : heldAt k ≡ some e). of-listed (h k e q));
+        held-found = λ (k : ℕ). collected key heldAt a (keys ls) k (keys-asc ls) (λ (e : List ℕ) (q : heldAt k ≡ some e). of-listed ls (h k e q));
         deletion-found = λ (k : ℕ). collected deletionKey deletedAt b (keys ls) k (keys-asc ls) (λ (e : List ℕ) (q : deletedAt k ≡ some e). g k e q .1);
       }
 

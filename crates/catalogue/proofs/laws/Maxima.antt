@@ -20,7 +20,7 @@ use Rattle.catalogue.proofs.laws.Assoc.{find-here, find-there, find-bel
 use Rattle.catalogue.proofs.laws.Line.{whole, and-both, deletion-key}
 use Rattle.catalogue.proofs.laws.Order.{order-free}
 
-same-kind-true : (s t : Kind) → sameKind s t ≡ true → s ≡ t
+pub same-kind-true : (s t : Kind) → sameKind s t ≡ true → s ≡ t
 unfolding sameKind
 same-kind-true event event h = refl
 same-kind-true event delete h = cc
@@ -39,7 +39,7 @@ same-kind-true refused delete h = cc
 same-kind-true refused blank h = cc
 same-kind-true refused refused h = refl
 
-same-kind-self : (t : Kind) → sameKind t t ≡ true
+pub same-kind-self : (t : Kind) → sameKind t t ≡ true
 unfolding sameKind
 same-kind-self event = refl
 same-kind-self delete = refl
@@ -121,7 +121,7 @@ module _ (key : List ℕ → ℕ) (f : ℕ → Option (List ℕ)) (keyed : (k : 
   at-asc k b none xs e h s = asc-weaken key xs (omega arith) s
   at-asc k b (some x) xs e h s = let q = keyed k x e in (omega arith, asc-weaken key xs (omega arith) s)
 
-  collect-asc : (ks : List ℕ) (b : ℕ) → AscFrom (λ (k : ℕ). k) b ks → AscFrom key b (collect f ks)
+  pub collect-asc : (ks : List ℕ) (b : ℕ) → AscFrom (λ (k : ℕ). k) b ks → AscFrom key b (collect f ks)
   unfolding collect
   collect-asc [] b s = tt
   collect-asc (k ∷ ks) b s = at-asc k b (f k) (collect f ks) refl (s .0) (collect-asc ks (suc k) (s .1))
@@ -156,14 +156,14 @@ module _ (key : List ℕ → ℕ) (f : ℕ → Option (List ℕ)) (keyed : (k : 
       ]
 
   -- what is found is what was to be collected
-  collected : (ks : List ℕ) (j : ℕ) → AscFrom (λ (k : ℕ). k) 0 ks → ((e : List ℕ) → f j ≡ some e → find (λ (k : ℕ). k) j ks ≡ some j) → find key j (collect f ks) ≡ f j
+  pub collected : (ks : List ℕ) (j : ℕ) → AscFrom (λ (k : ℕ). k) 0 ks → ((e : List ℕ) → f j ≡ some e → find (λ (k : ℕ). k) j ks ≡ some j) → find key j (collect f ks) ≡ f j
   collected ks j s m = go (f j) refl
     where
       go : (o : Option (List ℕ)) → f j ≡ o → find key j (collect f ks) ≡ f j
       go none e = collect-miss ks j e ∙ sym e
       go (some x) e = collect-find ks 0 j s (m x e)
 
-keys-asc : (ls : List (List ℕ)) → AscFrom (λ (k : ℕ). k) 0 (keys ls)
+pub keys-asc : (ls : List (List ℕ)) → AscFrom (λ (k : ℕ). k) 0 (keys ls)
 unfolding keys
 keys-asc [] = tt
 keys-asc (l ∷ ls) = put-asc (λ (k : ℕ). k) (key l) (keys ls) 0 zero-le (keys-asc ls)
@@ -181,7 +181,7 @@ keys-listed (l ∷ ls) x m =
     ]
 
 module _ (ls : List (List ℕ)) where
-  of-listed : {t : Kind} {k : ℕ} {x : List ℕ} → Of (Occurs ls) t k x → find (λ (j : ℕ). j) k (keys ls) ≡ some k
+  pub of-listed : {t : Kind} {k : ℕ} {x : List ℕ} → Of (Occurs ls) t k x → find (λ (j : ℕ). j) k (keys ls) ≡ some k
   of-listed {x = x} o = subst (λ (j : ℕ). find (λ (i : ℕ). i) j (keys ls) ≡ some j) (o .is-key) (keys-listed ls x (o .inside))
 
   deletion-at : (k : ℕ) → DeletionIs (Occurs ls) k (deletionFor (highest delete k ls))
