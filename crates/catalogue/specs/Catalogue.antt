@@ -1,4 +1,4 @@
--- The catalogue, and how a line is taken into it.
+-- The catalogue, and how a line is taken into it. Document 01, "The catalogue".
 use Rattle.columns.specs.Answer.{pick}
 use Rattle.formats.specs.Record.{sameBytes}
 use Prim.Native.Nat.{ℕ, _+_}
@@ -18,6 +18,31 @@ pub record Catalogue : Type 0 where
 abbrev pub empty : Catalogue
 empty = record { held = []; deletions = [] }
 
+-- the numbers answered: 12, and 20 to 26
+abbrev pub full : ℕ
+full = 12
+
+abbrev pub stored : ℕ
+stored = 20
+
+abbrev pub replaced : ℕ
+replaced = 21
+
+abbrev pub repeated : ℕ
+repeated = 22
+
+abbrev pub outdated : ℕ
+outdated = 23
+
+abbrev pub removed : ℕ
+removed = 24
+
+abbrev pub noted : ℕ
+noted = 25
+
+abbrev pub nothingHeld : ℕ
+nothingHeld = 26
+
 -- what a call answers, and the catalogue after it
 pub record Taken : Type 0 where
   pub answer : ℕ
@@ -34,42 +59,43 @@ named c = length (c .deletions) + length (onlyHeld (c .deletions) (c .held))
 
 -- a line whose pair is new: refused where 512 are named
 unfoldable pub ifRoom : Catalogue → Taken → Taken
-ifRoom c t = pick (leb 512 (named c)) (record { answer = 12; after = c }) t
+ifRoom c t = pick (leb 512 (named c)) (record { answer = full; after = c }) t
 
--- an E line, no deletion at or above it: by what is held
+-- an E line, no deletion at or above it: nothing held 20; held version above it 23; equal bytes 22; else replaced, 21
 unfoldable pub takeAbove : Catalogue → List ℕ → Option (List ℕ) → Taken
-takeAbove c l none = record { answer = 20; after = record { held = put key l (c .held); deletions = c .deletions } }
+takeAbove c l none = record { answer = stored; after = record { held = put key l (c .held); deletions = c .deletions } }
 takeAbove c l (some h) =
-    pick (ltb (version l) (version h)) (record { answer = 23; after = c })
-    (pick (sameBytes l h) (record { answer = 22; after = c })
-    (record { answer = 21; after = record { held = put key l (c .held); deletions = c .deletions } }))
+    pick (ltb (version l) (version h)) (record { answer = outdated; after = c })
+    (pick (sameBytes l h) (record { answer = repeated; after = c })
+    (record { answer = replaced; after = record { held = put key l (c .held); deletions = c .deletions } }))
 
--- an E line: by its pair's deletion and what is held
+-- an E line: deleted version at or above it 23; then as above; a new pair needs room
 unfoldable pub takeEvent : Catalogue → List ℕ → Option (List ℕ) → Option (List ℕ) → Taken
 takeEvent c l none none = ifRoom c (takeAbove c l none)
 takeEvent c l none (some h) = takeAbove c l (some h)
 takeEvent c l (some d) o =
-    pick (leb (version l) (deletionVersion d)) (record { answer = 23; after = c }) (takeAbove c l o)
+    pick (leb (version l) (deletionVersion d)) (record { answer = outdated; after = c }) (takeAbove c l o)
 
--- a DE line, no deletion at or above it: by what is held
+-- a DE line, no deletion at or above it: the deletion becomes its version; a held line at or below it is removed, 24, or none is, 25
 unfoldable pub deleteAbove : Catalogue → List ℕ → Option (List ℕ) → Taken
-deleteAbove c l none = record { answer = 25; after = record { held = c .held; deletions = put deletionKey (deletion l) (c .deletions) } }
+deleteAbove c l none = record { answer = noted; after = record { held = c .held; deletions = put deletionKey (deletion l) (c .deletions) } }
 deleteAbove c l (some h) =
     pick (leb (version h) (version l))
-    (record { answer = 24; after = record { held = remove key (key l) (c .held); deletions = put deletionKey (deletion l) (c .deletions) } })
-    (record { answer = 25; after = record { held = c .held; deletions = put deletionKey (deletion l) (c .deletions) } })
+    (record { answer = removed; after = record { held = remove key (key l) (c .held); deletions = put deletionKey (deletion l) (c .deletions) } })
+    (record { answer = noted; after = record { held = c .held; deletions = put deletionKey (deletion l) (c .deletions) } })
 
+-- a DE line: deleted version at or above it 23; then as above; a new pair needs room
 unfoldable pub takeDelete : Catalogue → List ℕ → Option (List ℕ) → Option (List ℕ) → Taken
 takeDelete c l none none = ifRoom c (deleteAbove c l none)
 takeDelete c l none (some h) = deleteAbove c l (some h)
 takeDelete c l (some d) o =
-    pick (leb (version l) (deletionVersion d)) (record { answer = 23; after = c }) (deleteAbove c l o)
+    pick (leb (version l) (deletionVersion d)) (record { answer = outdated; after = c }) (deleteAbove c l o)
 
--- a DE line with a blank version
+-- a DE line with a blank version: nothing held 26; a held line is removed and its version becomes the deleted one, 24
 unfoldable pub takeBlank : Catalogue → List ℕ → Option (List ℕ) → Taken
-takeBlank c l none = record { answer = 26; after = c }
+takeBlank c l none = record { answer = nothingHeld; after = c }
 takeBlank c l (some h) =
-    record { answer = 24; after = record { held = remove key (key l) (c .held); deletions = put deletionKey (deletion h) (c .deletions) } }
+    record { answer = removed; after = record { held = remove key (key l) (c .held); deletions = put deletionKey (deletion h) (c .deletions) } }
 
 -- by its kind; a refused line changes nothing, and its own refusal is answered
 unfoldable pub takeKind : Kind → Catalogue → List ℕ → Taken

@@ -1,4 +1,4 @@
--- The catalogue of a set of lines: S x says that x is in the set. Nothing here knows an order of arrival.
+-- The catalogue of a set of lines: S x says that x is in the set. Nothing here knows an order of arrival. Document 01, "From a set".
 use Prim.Native.Nat.{ℕ, _≤_, _<_}
 use mathlib.Core.Path.{_≡_}
 use mathlib.Core.List.{List}

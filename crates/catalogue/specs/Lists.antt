@@ -1,4 +1,4 @@
--- Two lists of lines with the same acceptable lines, and what is asked of them.
+-- Two lists of lines with the same acceptable lines, and what is asked of them: the premises of demand 3.
 use Prim.Native.Nat.{ℕ, _≤_}
 use mathlib.Core.Path.{_≡_}
 use mathlib.Core.Logic.{_↔_}

@@ -1,4 +1,4 @@
--- The catalogue of a set of lines, computed: for each pair the highest of its DE lines and the highest of its E lines.
+-- The catalogue of a set of lines, computed: for each pair the highest of its DE lines and the highest of its E lines. Document 01, "From a set".
 use Rattle.columns.specs.Answer.{pick}
 use Prim.Native.Nat.{ℕ}
 use mathlib.Core.Bool.{Bool, true, false, _&&_}

@@ -1,4 +1,4 @@
--- What a plan does to a catalogue.
+-- What the code decides before it moves a byte, and what that does to a catalogue.
 use Rattle.columns.specs.Answer.{pick, Answer as Read, ok, refusal}
 use Prim.Native.Nat.{ℕ, suc, _≤_, _<_}
 use mathlib.Core.Path.{_≡_}

@@ -1,4 +1,5 @@
--- A room: the bytes of a catalogue.
+-- A room, the bytes of one catalogue: its layout, what in order means, and what a call answers and leaves. Document 01, "The
+-- catalogue", "Numbers answered".
 use Rattle.columns.specs.Answer.{pick}
 use Rattle.columns.specs.Bytes.{barred}
 use Rattle.formats.specs.Record.{sameBytes}
@@ -45,6 +46,9 @@ afterHeld r = drop (80 * number r) (drop 2 r)
 unfoldable pub contents : List ℕ → Catalogue
 contents r = record { held = rows (number r) 80 (drop 2 r); deletions = rows (number (afterHeld r)) 11 (drop 2 (afterHeld r)) }
 
+-- ---- in order, by document 01's clauses
+
+-- a section ascends strictly by source, then identifier
 unfoldable pub ascends : {E : Type 0} (key : E → ℕ) → ℕ → List E → Bool
 ascends key b [] = true
 ascends key b (x ∷ xs) = leb b (key x) && ascends key (suc (key x)) xs
@@ -53,30 +57,35 @@ unfoldable pub every : (List ℕ → Bool) → List (List ℕ) → Bool
 every p [] = true
 every p (x ∷ xs) = p x && every p xs
 
+-- each held line is acceptable as an E line
 unfoldable pub isEvent : Kind → Bool
 isEvent event = true
 isEvent delete = false
 isEvent blank = false
 isEvent refused = false
 
+-- a held version is above its pair's deleted version
 unfoldable pub aboveDeletion : Option (List ℕ) → List ℕ → Bool
 aboveDeletion none h = true
 aboveDeletion (some d) h = ltb (deletionVersion d) (version h)
 
--- a held line: acceptable, and above its pair's deletion
 unfoldable pub heldOk : List (List ℕ) → List ℕ → Bool
 heldOk deletions h = isEvent (kind h) && aboveDeletion (find deletionKey (key h) deletions) h
 
+-- each deletion is of allowed bytes: text, no brackets
 unfoldable pub deletionOk : List ℕ → Bool
 deletionOk d = eqb (length d) 11 && eqb (barred 1 11 1 d) 0
 
+-- both sections ascend, each entry is as it should be, at most 512 pairs are named
 unfoldable pub good : Catalogue → Bool
 good c =
     (ascends key 0 (c .held) && ascends deletionKey 0 (c .deletions)) && ((every (heldOk (c .deletions)) (c .held) && every deletionOk (c .deletions)) && leb (named c) 512)
 
--- in order: the room is the layout of what it says, and that is good
+-- the room is the layout of what it says, zeros after it, and that is good
 unfoldable pub inOrder : List ℕ → Bool
 inOrder r = good (contents r) && sameBytes (encode (contents r)) r
+
+-- ---- what a call answers and leaves: 11, 13, then the line
 
 -- any bytes, judged: 0 in order, 13 not, 11 too short
 unfoldable pub orderOf : List ℕ → ℕ

@@ -1,4 +1,4 @@
--- Keys of rows, and what a search for a key answers.
+-- Keys of rows, and what a search for a key answers, as the code reads them off the room.
 use Rattle.formats.specs.Record.{wordOf}
 use Prim.Native.Nat.{ℕ, _+_, _*_, _<_}
 use mathlib.Core.Path.{_≡_}

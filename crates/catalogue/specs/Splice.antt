@@ -1,4 +1,4 @@
--- A gap opened in a buffer, and bytes put into it; bytes taken out; a count stored.
+-- A gap opened in a buffer, and bytes put into it; bytes taken out; a count stored: what the code does to the bytes of a room.
 use Prim.Native.Nat.{ℕ, _+_, _-_, _/_, _%_}
 use mathlib.Core.List.{List, _++_}
 use lib.ListN.{length, take, drop, set, replicate}
