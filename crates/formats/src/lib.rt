@@ -3,6 +3,7 @@ pub mod check;
 pub mod cube;
 pub mod cube_record;
 pub mod lines;
+pub mod phase;
 pub mod record;
 
 // The numbers answered for a line, beside those of its columns (document 01, "Numbers answered").
