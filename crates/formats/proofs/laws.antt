@@ -8,3 +8,4 @@ pub mod CubeRecordBack
 pub mod CubeFields
 pub mod Lines
 pub mod Phase
+pub mod PhaseBack

@@ -1,13 +1,16 @@
-// The ISF phase line, read.
+// The ISF phase line, read and written.
 use columns::Outcome;
 use columns::bytes::copy;
 use columns::bytes::first_barred;
 use columns::reader::read_columns;
+use columns::writer::write_columns;
 ghost use mathlib.Core.Path.{_≡_};
 ghost use mathlib.Core.List.{[]};
 ghost use lib.ListN.{length};
 ghost use Rattle.columns.specs.Answer.{refusal};
 ghost use Rattle.columns.specs.Reading.{readColumns};
+ghost use Rattle.columns.specs.Writing.{writeLine};
+ghost use Rattle.columns.specs.Table.{slotsOf, Wrote};
 ghost use Rattle.formats.specs.Phase.{phaseColumns, readPhase, phaseOf};
 
 // The table of specs/Phase.antt: kind, width, a, b of each column.
@@ -504,4 +507,22 @@ pub fn read_phase(line: &[u8]) -> PhaseRead
     let mut filled = [32u8; 199];
     copy(&mut filled, line);
     read_phase_columns(&filled)
+}
+
+// A phase record, its 18 numbers and 68 text bytes, as a line of 199 bytes over the first of `out`. Nothing is changed where it is
+// refused.
+pub fn write_phase(flags: &[u8; 18], values: &[i64; 18], text: &[u8; 68], out: &mut [u8]) -> Outcome
+    ensures { λ r. ⌜ Wrote (writeLine phaseColumns (slotsOf (now (flags .entry)) (now (values .entry))) (now (text .entry)) (length (now (out .entry)))) r (now (out .entry)) (now (out .exit)) ⌝ }
+{
+    write_columns(
+        flags,
+        values,
+        text,
+        &PHASE_SHAPE,
+        &PHASE_RANGES,
+        &PHASE_LETTERS,
+        PHASE_COLUMNS,
+        199,
+        out,
+    )
 }
