@@ -9,3 +9,4 @@ pub mod CubeFields
 pub mod Lines
 pub mod Phase
 pub mod PhaseBack
+pub mod PhaseRecord

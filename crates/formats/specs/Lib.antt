@@ -4,3 +4,4 @@ pub mod Record
 pub mod CubeRecord
 pub mod Lines
 pub mod Phase
+pub mod PhaseRecord

@@ -74,7 +74,7 @@ pub fn read_into(line: &[u8], out: &mut [u8]) -> Reply
     }
 }
 
-fn reply_of(r: Outcome, len: usize) -> Reply
+pub fn reply_of(r: Outcome, len: usize) -> Reply
     ensures { λ o. ⌜ o ≡ replied r len ⌝ }
 {
     match r {

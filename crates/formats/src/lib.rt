@@ -4,6 +4,7 @@ pub mod cube;
 pub mod cube_record;
 pub mod lines;
 pub mod phase;
+pub mod phase_record;
 pub mod record;
 
 // The numbers answered for a line, beside those of its columns (document 01, "Numbers answered").
