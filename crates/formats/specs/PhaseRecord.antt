@@ -31,7 +31,7 @@ timeWhole r = eqb (getD r 3 0) (getD r 4 0) && eqb (getD r 4 0) (getD r 5 0)
 unfoldable pub readPhaseRecord : List ℕ → Answer Rec
 readPhaseRecord r =
     unless (ltb (length r) phaseSize) badForm 0
-    (pick (sameBytes (phaseBytes (phaseIn (take 231 r))) (take 231 r) && timeWhole r) (ok (phaseIn (take 231 r))) (refusal badForm 0))
+    (pick (sameBytes (phaseBytes (phaseIn (take 231 r))) (take 231 r) && timeWhole (take 231 r)) (ok (phaseIn (take 231 r))) (refusal badForm 0))
 
 -- ---- a line read into a record: 11 first where the place for it is short, then the line's refusals
 

@@ -215,7 +215,7 @@ event-named r e = rw e
 pub delete-named : (r : List ℕ) → (getD r 0 0 ≡ 1 → ⊥) → messageIn r ≡ deleteIn r
 delete-named r n = rw (ne-eqb (getD r 0 0) 1 n)
 
-slots-back : (ns : List Slot) → slotsOf (flagsOf ns) (valuesOf ns) ≡ ns
+pub slots-back : (ns : List Slot) → slotsOf (flagsOf ns) (valuesOf ns) ≡ ns
 unfolding slotsOf flagsOf valuesOf
 slots-back [] = refl
 slots-back (missing ∷ ns) = rw (slots-back ns)
