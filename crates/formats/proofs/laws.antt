@@ -10,3 +10,4 @@ pub mod Lines
 pub mod Phase
 pub mod PhaseBack
 pub mod PhaseRecord
+pub mod PhaseRecordBack
