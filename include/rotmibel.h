@@ -34,9 +34,11 @@ extern "C" {
 #define ROTMIBEL_BAD_LENGTH 1 /* the line's length, or a delete's text of more than 67 bytes; column 0 */
 #define ROTMIBEL_BARRED 2    /* a byte that may not stand in its column; that column */
 #define ROTMIBEL_TYPE 3      /* neither `E ` nor `DE`; column 1 */
+#define ROTMIBEL_SEPARATOR 4 /* a separator of a phase line is not blank; its column */
 #define ROTMIBEL_REQUIRED 5  /* a required field is blank or missing; its first column */
 #define ROTMIBEL_FORM 6      /* a field of bad form, its first column; or bytes that are no record, column 0 */
 #define ROTMIBEL_RANGE 7     /* a number out of its range; the field's first column */
+#define ROTMIBEL_LETTER 8    /* not one of the letters that its column may have; that column */
 #define ROTMIBEL_CHECK 9     /* the check character; column 80 */
 #define ROTMIBEL_WIDE 10     /* a number too wide for its field when written; the field's first column */
 #define ROTMIBEL_SHORT 11    /* the lent buffer or room is too short; column 0 */
@@ -54,14 +56,17 @@ extern "C" {
 #define ROTMIBEL_HELD 27         /* look-up: held, with its place from 0 */
 #define ROTMIBEL_NOT_HELD 28     /* look-up: not held */
 
-/* Sizes: a record of either kind, the longest CUBE line, the room of a catalogue. */
+/* Sizes: a CUBE record of either kind, the longest CUBE line, a phase record, a written phase line, the room of a catalogue. */
 #define ROTMIBEL_RECORD 268
 #define ROTMIBEL_LINE 80
+#define ROTMIBEL_PHASE_RECORD 231
+#define ROTMIBEL_PHASE_LINE 199
 #define ROTMIBEL_ROOM 46596
 
 /* Kinds, a record's first byte. */
 #define ROTMIBEL_EVENT 1
 #define ROTMIBEL_DELETE 2
+#define ROTMIBEL_PHASE 3
 
 /*
  * Read a CUBE line, `E ` or `DE`, into a record.
@@ -86,6 +91,26 @@ uint64_t rotmibel_read_line(const uint8_t *line, size_t line_len, uint8_t *recor
  * length. What is written reads back to the same record.
  */
 uint64_t rotmibel_write_line(const uint8_t *record, size_t record_len, uint8_t *line, size_t line_len);
+
+/*
+ * Read an ISF 2.1 phase line into a record. A line of fewer than 199 bytes is read as if blank-filled.
+ *
+ * line, line_len      the line
+ * record, record_len  where the record goes: at least ROTMIBEL_PHASE_RECORD bytes, the first of which are written
+ *
+ * Answers, looked for in this order: SHORT (record_len); BAD_LENGTH (over 199 bytes); BARRED (the lowest such column); then the columns
+ * from left to right, each SEPARATOR, or REQUIRED (the station), FORM, RANGE, LETTER; else READ, with length ROTMIBEL_PHASE_RECORD.
+ */
+uint64_t rotmibel_read_phase(const uint8_t *line, size_t line_len, uint8_t *record, size_t record_len);
+
+/*
+ * Write a phase record as a line of 199 bytes.
+ *
+ * Answers, looked for in this order: FORM at column 0 (no record, also a time with some of its parts missing); SHORT; then the columns
+ * from left to right, each REQUIRED, BARRED, WIDE, RANGE, LETTER; else READ, with the line's length. What is written reads back to
+ * the same record.
+ */
+uint64_t rotmibel_write_phase(const uint8_t *record, size_t record_len, uint8_t *line, size_t line_len);
 
 /*
  * The catalogue lives in a room, ROTMIBEL_ROOM bytes that the caller keeps, saves and loads as he likes. A zeroed room is an empty

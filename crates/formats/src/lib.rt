@@ -1,4 +1,4 @@
-// Formats: CUBE messages, and the bytes of their records.
+// Formats: CUBE messages, the ISF phase line, and the bytes of their records.
 pub mod check;
 pub mod cube;
 pub mod cube_record;

@@ -5,10 +5,13 @@ use catalogue::order::take_line;
 use formats::Reply;
 use formats::cube_record::read_into;
 use formats::cube_record::write_from;
+use formats::phase_record::read_phase_into;
+use formats::phase_record::write_phase_from;
 ghost use mathlib.Core.Path.{_≡_};
 ghost use Prim.Native.Nat.{_<_};
 ghost use lib.ListN.{length};
 ghost use Rattle.formats.specs.CubeRecord.{readInto, writeFrom};
+ghost use Rattle.formats.specs.PhaseRecord.{readPhaseInto, writePhaseFrom};
 ghost use Rattle.catalogue.specs.Room.{answerOf, columnOf, roomAfter, orderOf};
 ghost use Rattle.catalogue.specs.LookUp.{lookUp};
 ghost use Rattle.rotmibel.specs.Answers.{parts, numberIn, small, lookedNumber, Answered};
@@ -72,4 +75,20 @@ pub extern "C" fn rotmibel_in_order(room: &[u8]) -> u64
     ensures { λ r. ⌜ r ≡ parts (orderOf (now (room .entry))) 0 0 ⌝ }
 {
     parts_of(check_order(room), 0, 0)
+}
+
+// A phase line read into a record.
+#[no_mangle]
+pub extern "C" fn rotmibel_read_phase(line: &[u8], out: &mut [u8]) -> u64
+    ensures { λ r. ⌜ Answered (readPhaseInto (now (line .entry)) (length (now (out .entry)))) r (now (out .entry)) (now (out .exit)) ⌝ }
+{
+    number_of(read_phase_into(line, out))
+}
+
+// A phase line written from a record.
+#[no_mangle]
+pub extern "C" fn rotmibel_write_phase(from: &[u8], out: &mut [u8]) -> u64
+    ensures { λ r. ⌜ Answered (writePhaseFrom (now (from .entry)) (length (now (out .entry)))) r (now (out .entry)) (now (out .exit)) ⌝ }
+{
+    number_of(write_phase_from(from, out))
 }
