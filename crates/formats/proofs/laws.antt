@@ -7,3 +7,4 @@ pub mod CubeRecord
 pub mod CubeRecordBack
 pub mod CubeFields
 pub mod Lines
+pub mod Judge

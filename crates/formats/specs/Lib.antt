@@ -3,3 +3,4 @@ pub mod Cube
 pub mod Record
 pub mod CubeRecord
 pub mod Lines
+pub mod Judge
