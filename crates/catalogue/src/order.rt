@@ -1,10 +1,9 @@
 // Whether a room is in order: each loop over the rows of a section.
 use super::Call;
 use super::rows::Seek;
-use super::take::Sort;
-use super::take::sort_of;
 use super::take::take_ordered;
 use columns::bytes::first_barred;
+use formats::judge::is_event;
 ghost use mathlib.Core.Path.{_≡_};
 ghost use mathlib.Core.Bool.{Bool, true, false};
 ghost use mathlib.Core.List.{[], _∷_};
@@ -57,18 +56,14 @@ pub fn held_one(s: &[u8], at: usize, g: usize, m: usize) -> bool
 {
     let end = at + 80;
     let row = &s[at..end];
-    match sort_of(row) {
-        Sort::Delete => false,
-        Sort::Blank => false,
-        Sort::Refused(_, _) => false,
-        Sort::Event => {
-            let src = super::rows::word2(row, 10);
-            let id = super::rows::word8(row, 2);
-            match super::rows::look(s, g, 11, 0, m, src, id) {
-                Seek::Missing(_) => true,
-                Seek::Found(j) => s[g + 11 * j + 10] < s[at + 12],
-            }
-        }
+    if !is_event(row) {
+        return false;
+    }
+    let src = super::rows::word2(row, 10);
+    let id = super::rows::word8(row, 2);
+    match super::rows::look(s, g, 11, 0, m, src, id) {
+        Seek::Missing(_) => true,
+        Seek::Found(j) => s[g + 11 * j + 10] < s[at + 12],
     }
 }
 
