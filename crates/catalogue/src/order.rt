@@ -8,13 +8,16 @@ ghost use mathlib.Core.Path.{_≡_};
 ghost use mathlib.Core.Bool.{Bool, true, false};
 ghost use mathlib.Core.List.{[], _∷_};
 ghost use Prim.Native.Nat.{_+_, _*_, _-_, _≤_, _<_};
-ghost use lib.ListN.{length, getD, take, drop};
+ghost use lib.ListN.{length, take, drop};
 ghost use Rattle.columns.specs.Answer.{pick};
 ghost use Rattle.catalogue.specs.Line.{deletionKey};
 ghost use Rattle.catalogue.specs.Assoc.{AscFrom};
 ghost use Rattle.catalogue.specs.Catalogue.{onlyHeld};
 ghost use Rattle.catalogue.specs.Room.{rows, every, heldOk, deletionOk, inOrder, orderOf, roomAfter, callOf};
 ghost use Rattle.catalogue.specs.Zeros.{allZero};
+
+// More pairs than a room can name.
+const TOO_MANY: usize = 513;
 
 // Whether each deletion is of allowed bytes.
 pub fn deletion_all(s: &[u8], base: usize, m: usize) -> bool
@@ -54,7 +57,7 @@ pub fn zeros(s: &[u8], from: usize, to: usize) -> bool
 // deletion. The m deletions stand at g.
 pub fn held_one(s: &[u8], at: usize, g: usize, m: usize) -> usize
     requires { ⌜ (at + 80 ≤ length (now s)) × (g + 11 * m ≤ length (now s)) × (m ≤ 512) × AscFrom deletionKey 0 (rows m 11 (drop g (now s))) ⌝ }
-    ensures { λ r. ⌜ (r ≡ pick (heldOk (rows m 11 (drop g (now (s .entry)))) (take 80 (drop at (now (s .entry))))) (1 + length (onlyHeld (rows m 11 (drop g (now (s .entry)))) ((take 80 (drop at (now (s .entry)))) ∷ []))) 0) × (r ≤ 2) ⌝ }
+    ensures { λ r. ⌜ (r ≡ pick (heldOk (rows m 11 (drop g (now (s .entry)))) (take 80 (drop at (now (s .entry))))) (1 + length (onlyHeld (rows m 11 (drop g (now (s .entry)))) (take 80 (drop at (now (s .entry))) ∷ []))) 0) × (r ≤ 2) ⌝ }
 {
     let end = at + 80;
     let row = &s[at..end];
@@ -74,7 +77,7 @@ pub fn held_one(s: &[u8], at: usize, g: usize, m: usize) -> usize
     }
 }
 
-// How many held lines have no deletion, where each is acceptable and above its pair's; else more than a room can name.
+// How many held lines have no deletion, where each is acceptable and above its pair's; else too many.
 pub fn held_all(s: &[u8], n: usize, g: usize, m: usize) -> usize
     requires { ⌜ (2 + 80 * n ≤ length (now s)) × (n ≤ 512) × (g + 11 * m ≤ length (now s)) × (m ≤ 512) × AscFrom deletionKey 0 (rows m 11 (drop g (now s))) ⌝ }
     ensures { λ r. ⌜ (r ≡ pick (every (heldOk (rows m 11 (drop g (now (s .entry))))) (rows n 80 (drop 2 (now (s .entry))))) (length (onlyHeld (rows m 11 (drop g (now (s .entry)))) (rows n 80 (drop 2 (now (s .entry)))))) 513) × (r ≤ 513) ⌝ }
@@ -84,7 +87,7 @@ pub fn held_all(s: &[u8], n: usize, g: usize, m: usize) -> usize
     while i < n {
         let t = held_one(s, 2 + 80 * i, g, m);
         if t == 0 {
-            return 513;
+            return TOO_MANY;
         }
         k += t - 1;
         i += 1;

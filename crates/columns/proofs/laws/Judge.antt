@@ -91,14 +91,6 @@ module _ (cs : List Col) (at : ℕ) (l : List ℕ) (c : Col) where
   unfolding accepted
   accepted-more e = rw e
 
-pub accepted-one : (c : Col) (at : ℕ) (l : List ℕ) → accepted (c ∷ []) at l ≡ cellOk c (slice at (at + width c) l)
-unfolding accepted
-accepted-one c at l = and-true (cellOk c (slice at (at + width c) l))
-  where
-    and-true : (b : Bool) → b && true ≡ b
-    and-true true = refl
-    and-true false = refl
-
 -- a text that may be blank is never refused
 pub text-accepted : (w : ℕ) (x : Bool) (cs : List Col) (at : ℕ) (l : List ℕ) → accepted (text w false x ∷ cs) at l ≡ accepted cs (at + w) l
 unfolding accepted cellOk readCell
@@ -120,7 +112,7 @@ module _ (w : ℕ) (q : Bool) (lo hi : ℤ) where
       by-test true = refl
       by-test false = refl
 
-  pub integer-ok : (f : List ℕ) → fieldOk q lo hi (value (scan f)) ≡ cellOk (integer w q (span lo hi)) f
+  integer-ok : (f : List ℕ) → fieldOk q lo hi (value (scan f)) ≡ cellOk (integer w q (span lo hi)) f
   unfolding cellOk readCell allowed intField
   integer-ok f = judge-field (value (scan f))
 
@@ -142,7 +134,7 @@ module _ (w : ℕ) (q : Bool) (lo hi : ℤ) where
         ∙ integer-ok f
 
 -- the range of a number with its sign, as the code tests it
-pub signed-fits : (m : Bool) (n : ℕ) → n < 10 ^ 18 → SFits w64 (signed m n)
+signed-fits : (m : Bool) (n : ℕ) → n < 10 ^ 18 → SFits w64 (signed m n)
 signed-fits true n h = neg-fits n h
 signed-fits false n h = record { sfits = omega arith }
 
