@@ -1,20 +1,23 @@
 // Whether a room is in order: each loop over the rows of a section.
 use super::Call;
 use super::rows::Seek;
-use super::take::Sort;
-use super::take::sort_of;
 use super::take::take_ordered;
 use columns::bytes::first_barred;
+use formats::judge::is_event;
 ghost use mathlib.Core.Path.{_≡_};
 ghost use mathlib.Core.Bool.{Bool, true, false};
 ghost use mathlib.Core.List.{[], _∷_};
 ghost use Prim.Native.Nat.{_+_, _*_, _-_, _≤_, _<_};
-ghost use lib.ListN.{length, getD, take, drop};
+ghost use lib.ListN.{length, take, drop};
+ghost use Rattle.columns.specs.Answer.{pick};
 ghost use Rattle.catalogue.specs.Line.{deletionKey};
 ghost use Rattle.catalogue.specs.Assoc.{AscFrom};
 ghost use Rattle.catalogue.specs.Catalogue.{onlyHeld};
 ghost use Rattle.catalogue.specs.Room.{rows, every, heldOk, deletionOk, inOrder, orderOf, roomAfter, callOf};
 ghost use Rattle.catalogue.specs.Zeros.{allZero};
+
+// More pairs than a room can name.
+const TOO_MANY: usize = 513;
 
 // Whether each deletion is of allowed bytes.
 pub fn deletion_all(s: &[u8], base: usize, m: usize) -> bool
@@ -50,68 +53,43 @@ pub fn zeros(s: &[u8], from: usize, to: usize) -> bool
     true
 }
 
-// Whether the held line at `at` is acceptable and above its pair's deletion; the m deletions stand at g.
-pub fn held_one(s: &[u8], at: usize, g: usize, m: usize) -> bool
+// 0 where the held line at `at` is not acceptable or not above its pair's deletion; else 1, and one more where its pair has no
+// deletion. The m deletions stand at g.
+pub fn held_one(s: &[u8], at: usize, g: usize, m: usize) -> usize
     requires { ⌜ (at + 80 ≤ length (now s)) × (g + 11 * m ≤ length (now s)) × (m ≤ 512) × AscFrom deletionKey 0 (rows m 11 (drop g (now s))) ⌝ }
-    ensures { λ r. ⌜ r ≡ heldOk (rows m 11 (drop g (now (s .entry)))) (take 80 (drop at (now (s .entry)))) ⌝ }
+    ensures { λ r. ⌜ (r ≡ pick (heldOk (rows m 11 (drop g (now (s .entry)))) (take 80 (drop at (now (s .entry))))) (1 + length (onlyHeld (rows m 11 (drop g (now (s .entry)))) (take 80 (drop at (now (s .entry))) ∷ []))) 0) × (r ≤ 2) ⌝ }
 {
     let end = at + 80;
     let row = &s[at..end];
-    match sort_of(row) {
-        Sort::Delete => false,
-        Sort::Blank => false,
-        Sort::Refused(_, _) => false,
-        Sort::Event => {
-            let src = super::rows::word2(row, 10);
-            let id = super::rows::word8(row, 2);
-            match super::rows::look(s, g, 11, 0, m, src, id) {
-                Seek::Missing(_) => true,
-                Seek::Found(j) => s[g + 11 * j + 10] < s[at + 12],
-            }
-        }
+    if !is_event(row) {
+        return 0;
     }
-}
-
-// Whether each held line is.
-pub fn held_all(s: &[u8], n: usize, g: usize, m: usize) -> bool
-    requires { ⌜ (2 + 80 * n ≤ length (now s)) × (n ≤ 512) × (g + 11 * m ≤ length (now s)) × (m ≤ 512) × AscFrom deletionKey 0 (rows m 11 (drop g (now s))) ⌝ }
-    ensures { λ r. ⌜ r ≡ every (heldOk (rows m 11 (drop g (now (s .entry))))) (rows n 80 (drop 2 (now (s .entry)))) ⌝ }
-{
-    let mut i = 0;
-    while i < n {
-        if held_one(s, 2 + 80 * i, g, m) {
-            i += 1;
-        } else {
-            return false;
-        }
-    }
-    true
-}
-
-// 1 for a held line at `at` whose pair no deletion names, else 0.
-fn only_one(s: &[u8], at: usize, g: usize, m: usize) -> usize
-    requires { ⌜ (at + 80 ≤ length (now s)) × (g + 11 * m ≤ length (now s)) × (m ≤ 512) × AscFrom deletionKey 0 (rows m 11 (drop g (now s))) ⌝ }
-    ensures { λ r. ⌜ (r ≡ length (onlyHeld (rows m 11 (drop g (now (s .entry)))) (take 80 (drop at (now (s .entry))) ∷ []))) × (r ≤ 1) ⌝ }
-{
-    let end = at + 80;
-    let row = &s[at..end];
     let src = super::rows::word2(row, 10);
     let id = super::rows::word8(row, 2);
     match super::rows::look(s, g, 11, 0, m, src, id) {
-        Seek::Missing(_) => 1,
-        Seek::Found(_) => 0,
+        Seek::Missing(_) => 2,
+        Seek::Found(j) => {
+            if s[g + 11 * j + 10] < s[at + 12] {
+                return 1;
+            }
+            0
+        }
     }
 }
 
-// How many held lines have no deletion.
-pub fn only_all(s: &[u8], n: usize, g: usize, m: usize) -> usize
+// How many held lines have no deletion, where each is acceptable and above its pair's; else too many.
+pub fn held_all(s: &[u8], n: usize, g: usize, m: usize) -> usize
     requires { ⌜ (2 + 80 * n ≤ length (now s)) × (n ≤ 512) × (g + 11 * m ≤ length (now s)) × (m ≤ 512) × AscFrom deletionKey 0 (rows m 11 (drop g (now s))) ⌝ }
-    ensures { λ r. ⌜ (r ≡ length (onlyHeld (rows m 11 (drop g (now (s .entry)))) (rows n 80 (drop 2 (now (s .entry)))))) × (r ≤ 512) ⌝ }
+    ensures { λ r. ⌜ (r ≡ pick (every (heldOk (rows m 11 (drop g (now (s .entry))))) (rows n 80 (drop 2 (now (s .entry))))) (length (onlyHeld (rows m 11 (drop g (now (s .entry)))) (rows n 80 (drop 2 (now (s .entry)))))) 513) × (r ≤ 513) ⌝ }
 {
     let mut k = 0;
     let mut i = 0;
     while i < n {
-        k += only_one(s, 2 + 80 * i, g, m);
+        let t = held_one(s, 2 + 80 * i, g, m);
+        if t == 0 {
+            return TOO_MANY;
+        }
+        k += t - 1;
         i += 1;
     }
     k
@@ -134,11 +112,8 @@ pub fn in_order(s: &[u8]) -> bool
     if super::rows::ascending(s, g, 11, 0, m) {
         if super::rows::ascending(s, 2, 80, 10, n) {
             if deletion_all(s, g, m) {
-                if held_all(s, n, g, m) {
-                    if m + only_all(s, n, g, m) <= 512 {
-                        return zeros(s, g + 11 * m, 46596);
-                    }
-                    return false;
+                if m + held_all(s, n, g, m) <= 512 {
+                    return zeros(s, g + 11 * m, 46596);
                 }
                 return false;
             }

@@ -18,3 +18,4 @@ pub mod Writer
 pub mod Accepted
 pub mod Stretch
 pub mod Bounds
+pub mod Judge

@@ -7,3 +7,4 @@ pub mod Reading
 pub mod Writing
 pub mod Table
 pub mod Cell
+pub mod Judge

@@ -4,6 +4,7 @@ pub mod bytes;
 pub mod clock;
 pub mod column;
 pub mod cursor;
+pub mod judge;
 pub mod number;
 pub mod reader;
 pub mod writer;

@@ -28,7 +28,7 @@ pub enum Field {
 }
 
 // The digits from `from` to `to`, after the number `before`.
-fn read_digits(line: &[u8], from: usize, to: usize, before: u64) -> Digits
+pub fn read_digits(line: &[u8], from: usize, to: usize, before: u64) -> Digits
     requires { ⌜ (from ≤ to) × ((to ≤ length (now line)) × ((before + 1) * 10 ^ (to - from) ≤ 10 ^ 18)) ⌝ }
     ensures { λ r. ⌜ r ≡ digits before (slice from to (now (line .entry))) ⌝ }
 {
@@ -46,7 +46,7 @@ fn read_digits(line: &[u8], from: usize, to: usize, before: u64) -> Digits
 }
 
 // The number with its sign.
-fn with_sign(minus: bool, n: u64) -> i64
+pub fn with_sign(minus: bool, n: u64) -> i64
     requires { ⌜ n < 10 ^ 18 ⌝ }
     ensures { λ r. ⌜ r ≡ signed minus n ⌝ }
 {

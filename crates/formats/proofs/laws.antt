@@ -11,3 +11,4 @@ pub mod Phase
 pub mod PhaseBack
 pub mod PhaseRecord
 pub mod PhaseRecordBack
+pub mod Judge

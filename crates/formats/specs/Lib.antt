@@ -5,3 +5,4 @@ pub mod CubeRecord
 pub mod Lines
 pub mod Phase
 pub mod PhaseRecord
+pub mod Judge

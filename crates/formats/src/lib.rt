@@ -2,6 +2,7 @@
 pub mod check;
 pub mod cube;
 pub mod cube_record;
+pub mod judge;
 pub mod lines;
 pub mod phase;
 pub mod phase_record;

@@ -2,6 +2,7 @@
 use Rattle.formats.specs.Record.{sameBytes}
 use Prim.Native.Nat.{ℕ, zero, suc, _+_, _*_, _-_, _≤_, _<_}
 use mathlib.Core.Path.{_≡_, refl, sym, _∙_, ap, ap₂}
+use Rattle.columns.specs.Answer.{pick}
 use mathlib.Core.Bool.{Bool, true, false, _&&_}
 use mathlib.Core.List.{List, [], _∷_}
 use native.Mathlib.Omega.{arith}
@@ -130,6 +131,10 @@ module _ (R : List ℕ) (len : length R ≡ 46596) (n : ℕ) (hn : n ≡ two R 0
 
     pub many-named : (k : ℕ) → k ≡ length (onlyHeld G H) → 512 < m + k → false ≡ inOrder R
     many-named k f h = never (inOrder R) (λ (e : inOrder R ≡ true). omega (arith, leb-true (named said) 512 (parts e .1 .1), named-is))
+
+    pub held-refused : (t : Bool) (r : ℕ) → t ≡ every (heldOk G) H → r ≡ pick t (length (onlyHeld G H)) 513 → 512 < m + r → false ≡ inOrder R
+    held-refused true r e f h = many-named r f h
+    held-refused false r e f h = held-barred (sym e)
 
     pub deletion-ascend : ascends (rowKey 0) 0 G ≡ true → AscFrom deletionKey 0 G
     deletion-ascend e = asc-of deletionKey 0 G (sym deletion-same ∙ e)

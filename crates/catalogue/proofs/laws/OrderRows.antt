@@ -9,6 +9,7 @@ use lib.Dec.{ltb, eqb}
 use lib.ListN.{length, take, drop, getD, length-drop}
 use lib.Seq.{drop-cons, drop-drop, getD-drop, getD-take, length-take-le}
 use borrow.Author.Tests.{eq-eqb, ne-eqb}
+use Rattle.columns.specs.Answer.{pick}
 use Rattle.catalogue.specs.Line.{Kind, event, kind, version, key, deletionKey, deletionVersion}
 use Rattle.columns.specs.Bytes.{barred}
 use Rattle.catalogue.specs.Assoc.{find, AscFrom}
@@ -144,3 +145,31 @@ module _ (G : List (List ℕ)) (s : List ℕ) (n : ℕ) where
   count-end k i t h e =
       let z : n - i ≡ 0 = omega arith in
       omega (arith, ap (λ (j : ℕ). length (onlyHeld G (rows j 80 (drop (2 + 80 * i) s)))) z)
+
+-- ---- a held line's weight: 0 where it is refused, else 1 more than it counts
+
+pub weighed-none : (t : Bool) (k r : ℕ) → r ≡ pick t (1 + k) 0 → r ≡ 0 → t ≡ false
+weighed-none true k r e f = let y : ⊥ = omega arith in absurd y
+weighed-none false k r e f = refl
+
+pub weighed-some : (t : Bool) (k r : ℕ) → r ≡ pick t (1 + k) 0 → (r ≡ 0 → ⊥) → (t ≡ true) × (r - 1 ≡ k)
+weighed-some true k r e f = (refl, omega arith)
+weighed-some false k r e f = absurd (f e)
+
+pub weight-not : (t : Bool) (k : ℕ) → false ≡ t → 0 ≡ pick t (1 + k) 0
+weight-not t k e = rw (← e)
+
+pub weight-of : (t : Bool) (k j : ℕ) → true ≡ t → j ≡ k → 1 + j ≡ pick t (1 + k) 0
+weight-of t k j e f = rw (← e, f)
+
+-- ---- the weights of all held lines: what they count, or 513
+
+pub counted : (t : Bool) (k r m : ℕ) → r ≡ pick t k 513 → m + r ≤ 512 → (t ≡ true) × (r ≡ k)
+counted true k r m e h = (refl, e)
+counted false k r m e h = let y : ⊥ = omega arith in absurd y
+
+pub count-not : (t : Bool) (k : ℕ) → t ≡ false → 513 ≡ pick t k 513
+count-not t k e = rw e
+
+pub count-of : (t : Bool) (k j : ℕ) → t ≡ true → j ≡ k → j ≡ pick t k 513
+count-of t k j e f = rw (e, f)

@@ -10,11 +10,12 @@ use lib.Seq.{getD-take, take-at}
 use Rattle.columns.specs.Answer.{pick, Answer as Read, ok, refusal}
 use Rattle.formats.specs.declared.cube.LineRead.{LineRead}
 use Rattle.formats.specs.Cube.{Message, readLine, lineOf}
+use Rattle.formats.specs.Judge.{isEventAnswer, isEventLine}
 use Rattle.formats.proofs.laws.CubeBack.{Sized, line-accepted}
 use Rattle.catalogue.specs.declared.take.Sort.{Sort}
 use Rattle.catalogue.specs.Line.{Kind, event, delete, blank, refused, kindOf, kind, refusedBy, refusedAt}
 use Rattle.catalogue.specs.Catalogue.{Taken, takeKind, step}
-use Rattle.catalogue.specs.Room.{contents, encode, answerOf, columnOf, callOf, roomAfter}
+use Rattle.catalogue.specs.Room.{isEvent, contents, encode, answerOf, columnOf, callOf, roomAfter}
 use Rattle.catalogue.specs.Plans.{sortIn, sortBy}
 use Rattle.catalogue.specs.Ordered.{Ordered}
 use Rattle.catalogue.proofs.laws.View.{view, answer-is, room-is, column-is}
@@ -105,3 +106,29 @@ delete-accepted l e r = let z : _≡_ {A = ℕ} 0 1 = cc in omega arith
 
 pub blank-accepted : (l : List ℕ) → kind l ≡ blank → kind l ≡ refused → ⊥
 blank-accepted l e r = let z : _≡_ {A = ℕ} 0 1 = cc in omega arith
+
+-- ---- an acceptable E line, as it is judged
+
+event-answer : (a : Read Message) → isEventAnswer a ≡ isEvent (kindOf a)
+unfolding isEvent
+event-answer (ok (cube.event ns t)) = refl
+event-answer (ok (cube.delete names t)) = by-test (eqb (getD names 10 0) 32)
+  where
+    by-test : (t : Bool) → false ≡ isEvent (pick t blank delete)
+    by-test true = refl
+    by-test false = refl
+event-answer (refusal n k) = refl
+
+pub event-line : (l : List ℕ) → isEventLine l ≡ isEvent (kind l)
+unfolding isEventLine kind
+event-line l = event-answer (readLine l)
+
+event-of : (k : Kind) → isEvent k ≡ true → event ≡ k
+unfolding isEvent
+event-of event e = refl
+event-of delete e = let z : _≡_ {A = ℕ} 0 1 = cc in absurd (omega arith)
+event-of blank e = let z : _≡_ {A = ℕ} 0 1 = cc in absurd (omega arith)
+event-of refused e = let z : _≡_ {A = ℕ} 0 1 = cc in absurd (omega arith)
+
+pub event-judged : (l : List ℕ) → isEventLine l ≡ true → event ≡ kind l
+event-judged l e = event-of (kind l) (sym (event-line l) ∙ e)

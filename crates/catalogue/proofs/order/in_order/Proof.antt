@@ -1,6 +1,7 @@
-use Rattle.catalogue.proofs.laws.InOrder.{many-held, many-deletion, deletion-ascend, deletion-mixed, held-mixed, deletion-barred, held-barred, many-named, zeros-decide}
+use Rattle.catalogue.proofs.laws.InOrder.{many-held, many-deletion, deletion-ascend, deletion-mixed, held-mixed, deletion-barred, held-refused, zeros-decide}
 use native.Mathlib.Omega.{arith}
-use mathlib.Core.Path.{sym, _∙_}
+use mathlib.Core.Path.{refl, sym, _∙_}
+use Rattle.catalogue.proofs.laws.OrderRows.{counted}
 use Prim.Native.Nat.{ℕ}
 use denote.Ref.{now}
 use borrow.Author.Needs.{needs}
@@ -49,13 +50,8 @@ held-all-requires c κs =
     let d = c .before .before .before .before .before .before .before .before .before .before .before in
     (omega arith, omega arith, omega arith, omega arith, deletion-ascend (now (d .args .s)) (d .pre) (c .before .before .before .before .before .before .before .before .before .word2 .result) (c .before .before .before .before .before .before .before .before .before .word2 .ensures .0) (c .before .before .before .before .before .before .before .word22 .result) (c .before .before .before .before .before .before .before .word22 .ensures .0) (sym (c .before .before .before .before .before .ascending .ensures) ∙ c .before .before .before .before .if3 .taken))
 
-only-all-requires : tie.Need-only-all-requires
-only-all-requires c κs =
-    let d = c .before .before .before .before .before .before .before .before .before .before .before .before .before in
-    (omega arith, omega arith, omega arith, omega arith, deletion-ascend (now (d .args .s)) (d .pre) (c .before .before .before .before .before .before .before .before .before .before .before .word2 .result) (c .before .before .before .before .before .before .before .before .before .before .before .word2 .ensures .0) (c .before .before .before .before .before .before .before .before .before .word22 .result) (c .before .before .before .before .before .before .before .before .before .word22 .ensures .0) (sym (c .before .before .before .before .before .before .before .ascending .ensures) ∙ c .before .before .before .before .before .before .if3 .taken))
-
-add-if7 : tie.Need-add-if7
-add-if7 c = search needs
+add-if6 : tie.Need-add-if6
+add-if6 c = search needs
 
 mul-zeros : tie.Need-mul-zeros
 mul-zeros c = search needs
@@ -68,31 +64,27 @@ zeros-requires c κs = search needs
 
 returns-3 : tie.Need-returns-3
 returns-3 c =
-    let d = c .before .before .before .before .before .before .before .before .before .before .before .before .before .before .before .before in
-    zeros-decide (now (d .args .s)) (d .pre) (c .before .before .before .before .before .before .before .before .before .before .before .before .before .before .word2 .result) (c .before .before .before .before .before .before .before .before .before .before .before .before .before .before .word2 .ensures .0) (c .before .before .before .before .before .before .before .before .before .before .before .before .word22 .result) (c .before .before .before .before .before .before .before .before .before .before .before .before .word22 .ensures .0) (sym (c .before .before .before .before .before .before .before .before .before .before .ascending .ensures) ∙ c .before .before .before .before .before .before .before .before .before .if3 .taken) (sym (c .before .before .before .before .before .before .before .before .ascending2 .ensures) ∙ c .before .before .before .before .before .before .before .if4 .taken) (sym (c .before .before .before .before .before .before .deletion-all .ensures) ∙ c .before .before .before .before .before .if5 .taken) (sym (c .before .before .before .before .held-all .ensures) ∙ c .before .before .before .if6 .taken) (c .before .before .only-all .result) (c .before .before .only-all .ensures .0) (c .before .if7 .taken) (omega arith) (omega arith) (λ (i : ℕ). omega (arith, c .before .before .before .before .before .before .before .before .before .before .before .before .before .before .before .shared-slice-known .given i)) (c .zeros .result) (c .zeros .ensures)
+    let d = c .before .before .before .before .before .before .before .before .before .before .before .before .before .before in
+    let k = counted _ _ _ _ (c .before .before .held-all .ensures .0) (c .before .if6 .taken) in
+    zeros-decide (now (d .args .s)) (d .pre) (c .before .before .before .before .before .before .before .before .before .before .before .before .word2 .result) (c .before .before .before .before .before .before .before .before .before .before .before .before .word2 .ensures .0) (c .before .before .before .before .before .before .before .before .before .before .word22 .result) (c .before .before .before .before .before .before .before .before .before .before .word22 .ensures .0) (sym (c .before .before .before .before .before .before .before .before .ascending .ensures) ∙ c .before .before .before .before .before .before .before .if3 .taken) (sym (c .before .before .before .before .before .before .ascending2 .ensures) ∙ c .before .before .before .before .before .if4 .taken) (sym (c .before .before .before .before .deletion-all .ensures) ∙ c .before .before .before .if5 .taken) (k .0) (c .before .before .held-all .result) (k .1) (c .before .if6 .taken) (omega arith) (omega arith) (λ (i : ℕ). omega (arith, c .before .before .before .before .before .before .before .before .before .before .before .before .before .shared-slice-known .given i)) (c .zeros .result) (c .zeros .ensures)
 
 returns-4 : tie.Need-returns-4
 returns-4 c =
-    let d = c .before .before .before .before .before .before .before .before .before .before .before .before .before .before .before in
-    many-named (now (d .args .s)) (d .pre) (c .before .before .before .before .before .before .before .before .before .before .before .before .before .word2 .result) (c .before .before .before .before .before .before .before .before .before .before .before .before .before .word2 .ensures .0) (c .before .before .before .before .before .before .before .before .before .before .before .word22 .result) (c .before .before .before .before .before .before .before .before .before .before .before .word22 .ensures .0) (c .before .only-all .result) (c .before .only-all .ensures .0) (c .if7 .left)
+    let d = c .before .before .before .before .before .before .before .before .before .before .before .before .before in
+    held-refused (now (d .args .s)) (d .pre) (c .before .before .before .before .before .before .before .before .before .before .before .word2 .result) (c .before .before .before .before .before .before .before .before .before .before .before .word2 .ensures .0) (c .before .before .before .before .before .before .before .before .before .word22 .result) (c .before .before .before .before .before .before .before .before .before .word22 .ensures .0) _ (c .before .held-all .result) refl (c .before .held-all .ensures .0) (c .if6 .left)
 
 returns-5 : tie.Need-returns-5
 returns-5 c =
-    let d = c .before .before .before .before .before .before .before .before .before .before .before .before .before in
-    held-barred (now (d .args .s)) (d .pre) (c .before .before .before .before .before .before .before .before .before .before .before .word2 .result) (c .before .before .before .before .before .before .before .before .before .before .before .word2 .ensures .0) (c .before .before .before .before .before .before .before .before .before .word22 .result) (c .before .before .before .before .before .before .before .before .before .word22 .ensures .0) (sym (c .before .held-all .ensures) ∙ c .if6 .left)
-
-returns-6 : tie.Need-returns-6
-returns-6 c =
     let d = c .before .before .before .before .before .before .before .before .before .before .before in
     deletion-barred (now (d .args .s)) (d .pre) (c .before .before .before .before .before .before .before .before .before .word2 .result) (c .before .before .before .before .before .before .before .before .before .word2 .ensures .0) (c .before .before .before .before .before .before .before .word22 .result) (c .before .before .before .before .before .before .before .word22 .ensures .0) (sym (c .before .deletion-all .ensures) ∙ c .if5 .left)
 
-returns-7 : tie.Need-returns-7
-returns-7 c =
+returns-6 : tie.Need-returns-6
+returns-6 c =
     let d = c .before .before .before .before .before .before .before .before .before in
     held-mixed (now (d .args .s)) (d .pre) (c .before .before .before .before .before .before .before .word2 .result) (c .before .before .before .before .before .before .before .word2 .ensures .0) (c .before .before .before .before .before .word22 .result) (c .before .before .before .before .before .word22 .ensures .0) (sym (c .before .ascending2 .ensures) ∙ c .if4 .left)
 
-returns-8 : tie.Need-returns-8
-returns-8 c =
+returns-7 : tie.Need-returns-7
+returns-7 c =
     let d = c .before .before .before .before .before .before .before in
     deletion-mixed (now (d .args .s)) (d .pre) (c .before .before .before .before .before .word2 .result) (c .before .before .before .before .before .word2 .ensures .0) (c .before .before .before .word22 .result) (c .before .before .before .word22 .ensures .0) (sym (c .before .ascending .ensures) ∙ c .if3 .left)
 
@@ -112,8 +104,7 @@ in-order-spec =
     ascending-requires-2
     deletion-all-requires
     held-all-requires
-    only-all-requires
-    add-if7
+    add-if6
     mul-zeros
     add-zeros
     zeros-requires
@@ -121,5 +112,4 @@ in-order-spec =
     returns-4
     returns-5
     returns-6
-    returns-7
-    returns-8)
+    returns-7)

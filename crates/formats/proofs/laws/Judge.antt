@@ -1,0 +1,92 @@
+-- An acceptable E line, as the code comes to it.
+use mathlib.Core.Path.{_≡_, refl, sym, ap, _∙_}
+use mathlib.Core.Bool.{Bool, true, false, _&&_}
+use mathlib.Core.List.{List, [], _∷_}
+use Prim.Native.Nat.{ℕ, _+_}
+use native.Mathlib.Omega.{arith}
+use lib.ListN.{length, take, drop, getD}
+use lib.Seq.{slice}
+use lib.Dec.{eqb, ltb}
+use borrow.Author.Tests.{ne-eqb}
+use Rattle.columns.specs.Answer.{pick, Answer, ok, refusal}
+use Rattle.columns.specs.Column.{Rec, Col, text, width}
+use Rattle.columns.specs.Reading.{readCell, readColumns}
+use Rattle.columns.specs.Judge.{isOk, cellOk, accepted}
+use Rattle.columns.proofs.laws.Tests.{and-false}
+use Rattle.columns.proofs.laws.Judge.{columns-ok, accepted-stop, accepted-more, text-accepted}
+use Rattle.formats.specs.Check.{checkCharacter}
+use Rattle.formats.specs.Cube.{eventColumns, Message, asEvent, lowestBarred, readEvent, readDelete, readLine, isType, differs, wrongLength, wrongType}
+use Rattle.formats.specs.Judge.{isEventAnswer, isEventLine}
+use Rattle.formats.proofs.laws.Cube.{event-length, event-barred, event-check, event-columns, line-event}
+
+as-event-is : (a : Answer Rec) → isEventAnswer (asEvent a) ≡ isOk a
+as-event-is (ok r) = refl
+as-event-is (refusal n k) = refl
+
+pick-not : (t : Bool) (a b : Answer Message) → isEventAnswer a ≡ false → isEventAnswer b ≡ false → isEventAnswer (pick t a b) ≡ false
+pick-not true a b p q = p
+pick-not false a b p q = q
+
+module _ (l : List ℕ) where
+  delete-not : isEventAnswer (readDelete l) ≡ false
+  unfolding readDelete
+  delete-not = pick-not (ltb (length l) 13) _ _ refl (pick-not (ltb 80 (length l)) _ _ refl (pick-not (differs (lowestBarred l) 0) _ _ refl refl))
+
+  other-not : (t : Bool) → isEventAnswer (pick t (readDelete l) (refusal wrongType 1)) ≡ false
+  other-not t = pick-not t (readDelete l) (refusal wrongType 1) delete-not refl
+
+  pub judged-length : (length l ≡ 80 → ⊥) → false ≡ isEventLine l
+  unfolding isEventLine readLine
+  judged-length n =
+      sym (pick-not (ltb (length l) 2) (refusal wrongLength 0) (pick (isType 69 32 l) (readEvent l) (pick (isType 68 69 l) (readDelete l) (refusal wrongType 1))) refl (pick-not (isType 69 32 l) (readEvent l) (pick (isType 68 69 l) (readDelete l) (refusal wrongType 1)) (ap isEventAnswer (event-length l n)) (other-not (isType 68 69 l))))
+
+  type-not : isType 69 32 l ≡ false → false ≡ isEventLine l
+  unfolding isEventLine readLine
+  type-not e =
+      sym (pick-not (ltb (length l) 2) (refusal wrongLength 0) (pick (isType 69 32 l) (readEvent l) (pick (isType 68 69 l) (readDelete l) (refusal wrongType 1))) refl (ap (λ (t : Bool). isEventAnswer (pick t (readEvent l) (pick (isType 68 69 l) (readDelete l) (refusal wrongType 1)))) e ∙ other-not (isType 68 69 l)))
+
+  pub judged-first : (getD l 0 0 ≡ 69 → ⊥) → false ≡ isEventLine l
+  judged-first n = type-not (rw (ne-eqb (getD l 0 0) 69 n))
+
+  pub judged-second : (getD l 1 0 ≡ 32 → ⊥) → false ≡ isEventLine l
+  judged-second n = type-not (rw (ne-eqb (getD l 1 0) 32 n) (and-false (eqb (getD l 0 0) 69)))
+
+  refused-not : (a : Answer Message) (n k : ℕ) → readLine l ≡ a → a ≡ refusal n k → false ≡ isEventLine l
+  unfolding isEventLine
+  refused-not a n k e f = sym (ap isEventAnswer (e ∙ f))
+
+  module _ (h : length l ≡ 80) (a : getD l 0 0 ≡ 69) (b : getD l 1 0 ≡ 32) where
+    is-event : readLine l ≡ readEvent l
+    is-event = line-event l (omega arith) a b
+
+    pub judged-barred : (lowestBarred (take 79 l) ≡ 0 → ⊥) → false ≡ isEventLine l
+    judged-barred p = refused-not _ _ _ is-event (event-barred l h p)
+
+    module _ (p : lowestBarred (take 79 l) ≡ 0) where
+      pub judged-check : (getD l 79 0 ≡ checkCharacter (take 79 l) → ⊥) → false ≡ isEventLine l
+      judged-check q = refused-not _ _ _ is-event (event-check l h p q)
+
+      pub judged-columns : getD l 79 0 ≡ checkCharacter (take 79 l) → accepted eventColumns 2 l ≡ isEventLine l
+      unfolding isEventLine
+      judged-columns q =
+          sym (ap isEventAnswer (is-event ∙ event-columns l h p q) ∙ as-event-is (readColumns eventColumns [] 2 (drop 2 l)) ∙ columns-ok eventColumns [] 2 l)
+
+-- ---- the columns, one test after the other
+
+module _ (c : Col) (cs : List Col) (at : ℕ) (l : List ℕ) {b : Bool} (e : b ≡ cellOk c (slice at (at + width c) l)) where
+  pub judged-stop : b ≡ false → false ≡ accepted (c ∷ cs) at l
+  judged-stop f = sym (accepted-stop cs at l c (sym e ∙ f))
+
+  pub judged-more : b ≡ true → {r : Bool} → r ≡ accepted cs (at + width c) l → r ≡ accepted (c ∷ cs) at l
+  judged-more f g = g ∙ sym (accepted-more cs at l c (sym e ∙ f))
+
+pub judged-text : (w : ℕ) (x : Bool) (cs : List Col) (at : ℕ) (l : List ℕ) {r : Bool} → r ≡ accepted cs (at + w) l → r ≡ accepted (text w false x ∷ cs) at l
+judged-text w x cs at l g = g ∙ sym (text-accepted w x cs at l)
+
+pub judged-last : (c : Col) (w : ℕ) (x : Bool) (at : ℕ) (l : List ℕ) {b : Bool} → b ≡ cellOk c (slice at (at + width c) l) → b ≡ accepted (c ∷ text w false x ∷ []) at l
+unfolding accepted cellOk readCell
+judged-last c w x at l e = e ∙ sym (and-true (cellOk c (slice at (at + width c) l)))
+  where
+    and-true : (b : Bool) → b && true ≡ b
+    and-true true = refl
+    and-true false = refl
