@@ -10,6 +10,7 @@ use Rattle.catalogue.specs.Line.{event, blank, refused, kind, pair, vers
 abbrev pub Occurs : List (List ℕ) → List ℕ → Type 0
 Occurs ls x = List·Memᴰ x ls
 
+-- document 01's word: the line meets every rule for an E or a DE line
 abbrev pub Acceptable : List ℕ → Type 0
 Acceptable x = kind x ≡ refused → ⊥
 
@@ -17,6 +18,7 @@ Acceptable x = kind x ≡ refused → ⊥
 abbrev pub SameLines : List (List ℕ) → List (List ℕ) → Type 0
 SameLines ls ms = (x : List ℕ) → Acceptable x → (Occurs ls x ↔ Occurs ms x)
 
+-- what demand 3 asks of a list, beside that the other has the same acceptable lines
 pub record Settled (ls : List (List ℕ)) : Type 0 where
   -- no acceptable delete has a blank version
   pub no-blank : (x : List ℕ) → Occurs ls x → kind x ≡ blank → ⊥

@@ -5,7 +5,6 @@ use super::take::take_ordered;
 use columns::bytes::first_barred;
 use formats::judge::is_event;
 ghost use mathlib.Core.Path.{_≡_};
-ghost use mathlib.Core.Bool.{Bool, true, false};
 ghost use mathlib.Core.List.{[], _∷_};
 ghost use Prim.Native.Nat.{_+_, _*_, _-_, _≤_, _<_};
 ghost use lib.ListN.{length, take, drop};
@@ -20,7 +19,7 @@ ghost use Rattle.catalogue.specs.Zeros.{allZero};
 const TOO_MANY: usize = 513;
 
 // Whether each deletion is of allowed bytes.
-pub fn deletion_all(s: &[u8], base: usize, m: usize) -> bool
+fn deletion_all(s: &[u8], base: usize, m: usize) -> bool
     requires { ⌜ (base + 11 * m ≤ length (now s)) × (m ≤ 512) ⌝ }
     ensures { λ r. ⌜ r ≡ every deletionOk (rows m 11 (drop base (now (s .entry)))) ⌝ }
 {
@@ -39,7 +38,7 @@ pub fn deletion_all(s: &[u8], base: usize, m: usize) -> bool
 }
 
 // Whether the bytes from `from` up to `to` are zero.
-pub fn zeros(s: &[u8], from: usize, to: usize) -> bool
+fn zeros(s: &[u8], from: usize, to: usize) -> bool
     requires { ⌜ (from ≤ to) × (to ≤ length (now s)) ⌝ }
     ensures { λ r. ⌜ r ≡ allZero (take (to - from) (drop from (now (s .entry)))) ⌝ }
 {
@@ -55,7 +54,7 @@ pub fn zeros(s: &[u8], from: usize, to: usize) -> bool
 
 // 0 where the held line at `at` is not acceptable or not above its pair's deletion; else 1, and one more where its pair has no
 // deletion. The m deletions stand at g.
-pub fn held_one(s: &[u8], at: usize, g: usize, m: usize) -> usize
+fn held_one(s: &[u8], at: usize, g: usize, m: usize) -> usize
     requires { ⌜ (at + 80 ≤ length (now s)) × (g + 11 * m ≤ length (now s)) × (m ≤ 512) × AscFrom deletionKey 0 (rows m 11 (drop g (now s))) ⌝ }
     ensures { λ r. ⌜ (r ≡ pick (heldOk (rows m 11 (drop g (now (s .entry)))) (take 80 (drop at (now (s .entry))))) (1 + length (onlyHeld (rows m 11 (drop g (now (s .entry)))) (take 80 (drop at (now (s .entry))) ∷ []))) 0) × (r ≤ 2) ⌝ }
 {
@@ -78,7 +77,7 @@ pub fn held_one(s: &[u8], at: usize, g: usize, m: usize) -> usize
 }
 
 // How many held lines have no deletion, where each is acceptable and above its pair's; else too many.
-pub fn held_all(s: &[u8], n: usize, g: usize, m: usize) -> usize
+fn held_all(s: &[u8], n: usize, g: usize, m: usize) -> usize
     requires { ⌜ (2 + 80 * n ≤ length (now s)) × (n ≤ 512) × (g + 11 * m ≤ length (now s)) × (m ≤ 512) × AscFrom deletionKey 0 (rows m 11 (drop g (now s))) ⌝ }
     ensures { λ r. ⌜ (r ≡ pick (every (heldOk (rows m 11 (drop g (now (s .entry))))) (rows n 80 (drop 2 (now (s .entry))))) (length (onlyHeld (rows m 11 (drop g (now (s .entry)))) (rows n 80 (drop 2 (now (s .entry)))))) 513) × (r ≤ 513) ⌝ }
 {

@@ -31,7 +31,7 @@ pub fn word8(s: &[u8], at: usize) -> u64
 }
 
 // The row's key at `at` is below the given one.
-pub fn before(s: &[u8], at: usize, so: usize, src: u64, id: u64) -> bool
+fn before(s: &[u8], at: usize, so: usize, src: u64, id: u64) -> bool
     requires { ⌜ (at + 10 ≤ length (now s)) × (at + so + 2 ≤ length (now s)) ⌝ }
     ensures { λ r. ⌜ r ≡ ltb (rowKey so (drop at (now (s .entry)))) (src * 18446744073709551616 + id) ⌝ }
 {
@@ -56,7 +56,7 @@ fn choose(t: bool, a: usize, b: usize) -> usize
 }
 
 // How many of the rows, which ascend, have a key below the given one: by halving the stretch that can hold the place.
-pub fn place(s: &[u8], base: usize, width: usize, so: usize, n: usize, src: u64, id: u64) -> usize
+fn place(s: &[u8], base: usize, width: usize, so: usize, n: usize, src: u64, id: u64) -> usize
     requires { ⌜ (base + width * n ≤ length (now s)) × (10 ≤ width) × (so + 2 ≤ width) × (width ≤ 80) × (n ≤ 65535) × AscFrom (rowKey so) 0 (rows n width (drop base (now s))) ⌝ }
     ensures { λ r. ⌜ r ≡ below (rowKey so) (src * 18446744073709551616 + id) (rows n width (drop base (now (s .entry)))) ⌝ }
 {

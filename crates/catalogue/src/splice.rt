@@ -7,7 +7,7 @@ ghost use lib.Seq.{paste};
 ghost use Rattle.catalogue.specs.Splice.{opened, spliced, zeros, cutOut, counted};
 
 // Moves the bytes from `at` up to `used` up by `w`.
-pub fn open_gap(room: &mut [u8], at: usize, used: usize, w: usize)
+fn open_gap(room: &mut [u8], at: usize, used: usize, w: usize)
     requires { ⌜ (at ≤ used) × (used + w ≤ length (now room)) ⌝ }
     ensures { λ _. ⌜ now (room .exit) ≡ opened (now (room .entry)) at used w at ⌝ }
 {
@@ -40,7 +40,7 @@ pub fn splice(room: &mut [u8], at: usize, used: usize, s: &[u8])
 }
 
 // Moves n bytes down by `w`, to `at` on.
-pub fn close_gap(room: &mut [u8], at: usize, w: usize, n: usize)
+fn close_gap(room: &mut [u8], at: usize, w: usize, n: usize)
     requires { ⌜ at + w + n ≤ length (now room) ⌝ }
     ensures { λ _. ⌜ now (room .exit) ≡ paste (now (room .entry)) at (drop (at + w) (now (room .entry))) n ⌝ }
 {
@@ -52,7 +52,7 @@ pub fn close_gap(room: &mut [u8], at: usize, w: usize, n: usize)
 }
 
 // Fills n bytes from `at` on with zeros.
-pub fn clear(room: &mut [u8], at: usize, n: usize)
+fn clear(room: &mut [u8], at: usize, n: usize)
     requires { ⌜ at + n ≤ length (now room) ⌝ }
     ensures { λ _. ⌜ now (room .exit) ≡ paste (now (room .entry)) at (zeros n) n ⌝ }
 {

@@ -184,7 +184,7 @@ fn replace_held(room: &mut [u8], i: usize, line: &[u8])
 }
 
 // An E line, taken into a room in order.
-pub fn take_event(room: &mut [u8], line: &[u8]) -> u8
+fn take_event(room: &mut [u8], line: &[u8]) -> u8
     requires { ⌜ Ordered (now room) × (kind (now line) ≡ event) ⌝ }
     ensures { λ r. ⌜ (r ≡ answerOf (now (room .entry)) (now (line .entry))) × (now (room .exit) ≡ roomAfter (now (room .entry)) (now (line .entry))) ⌝ }
 {
@@ -298,7 +298,7 @@ fn decide_delete(room: &[u8], line: &[u8]) -> Wipe
 }
 
 // A DE line with a version, taken into a room in order.
-pub fn take_delete(room: &mut [u8], line: &[u8]) -> u8
+fn take_delete(room: &mut [u8], line: &[u8]) -> u8
     requires { ⌜ Ordered (now room) × (kind (now line) ≡ delete) ⌝ }
     ensures { λ r. ⌜ (r ≡ answerOf (now (room .entry)) (now (line .entry))) × (now (room .exit) ≡ roomAfter (now (room .entry)) (now (line .entry))) ⌝ }
 {
@@ -317,7 +317,7 @@ pub fn take_delete(room: &mut [u8], line: &[u8]) -> u8
 }
 
 // A DE line with a blank version, taken into a room in order.
-pub fn take_blank(room: &mut [u8], line: &[u8]) -> u8
+fn take_blank(room: &mut [u8], line: &[u8]) -> u8
     requires { ⌜ Ordered (now room) × (kind (now line) ≡ blank) ⌝ }
     ensures { λ r. ⌜ (r ≡ answerOf (now (room .entry)) (now (line .entry))) × (now (room .exit) ≡ roomAfter (now (room .entry)) (now (line .entry))) ⌝ }
 {
@@ -356,7 +356,7 @@ fn sort_by(read: Read, version: u8) -> Sort
     }
 }
 
-pub fn sort_of(line: &[u8]) -> Sort
+fn sort_of(line: &[u8]) -> Sort
     ensures { λ r. ⌜ r ≡ sortIn (readLine (now (line .entry))) ⌝ }
 {
     let got = read_line(line);

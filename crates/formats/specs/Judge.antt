@@ -1,4 +1,4 @@
--- Whether a line is an acceptable E line.
+-- Whether a line is acceptable as an E line: what the line reader answers, with no record. Document 01, "The E line".
 use Prim.Native.Nat.{ℕ}
 use mathlib.Core.List.{List}
 use mathlib.Core.Bool.{Bool, true, false}
