@@ -6,3 +6,7 @@ pub mod Lines
 pub mod Phase
 pub mod PhaseRecord
 pub mod Judge
+pub mod Header
+pub mod Block
+pub mod BlockReader
+pub mod BlockWriting

@@ -1,4 +1,6 @@
 // Formats: CUBE messages, the ISF phase line, and the bytes of their records.
+pub mod block;
+pub mod block_reader;
 pub mod check;
 pub mod cube;
 pub mod cube_record;

@@ -1,0 +1,50 @@
+-- The phase block, as it is written. Document 01, "The block": header and lines are laid into successive parts of the caller's
+-- buffer, a newline after each, each from a given place and answering the place after it; other bytes stay.
+use mathlib.Core.Path.{_≡_}
+use Prim.Native.Nat.{ℕ, _+_, _-_}
+use mathlib.Core.List.{List, [], _∷_, _++_}
+use lib.ListN.{length}
+use lib.Dec.{ltb}
+use Rattle.columns.specs.Answer.{Answer, ok, refusal, tooShort}
+use Rattle.columns.specs.Table.{placed}
+use Rattle.formats.specs.Cube.{unless}
+use Rattle.formats.specs.Lines.{newline}
+use Rattle.formats.specs.PhaseRecord.{writePhaseFrom}
+use Rattle.formats.specs.Header.{phaseHeader}
+use Rattle.formats.specs.declared.Reply.{Reply}
+use Rattle.formats.specs.declared.Reply.the-variants as R
+
+-- a written line with its newline
+abbrev pub ended : Answer (List ℕ) → Answer (List ℕ)
+ended (ok l) = ok (l ++ newline ∷ [])
+ended (refusal n k) = refusal n k
+
+-- the header, 11 where it does not fit
+abbrev pub writeHeader : ℕ → Answer (List ℕ)
+writeHeader room = unless (ltb room (length phaseHeader)) tooShort 0 (ok phaseHeader)
+
+-- the bytes from a place on, one of them for the newline
+abbrev pub roomFrom : ℕ → ℕ → ℕ
+roomFrom at size = size - at - 1
+
+-- a call from a place of an output of a size: the header; a phase record
+unfoldable pub headerCall : ℕ → ℕ → Answer (List ℕ)
+headerCall at size = ended (writeHeader (roomFrom at size))
+
+unfoldable pub recordCall : List ℕ → ℕ → ℕ → Answer (List ℕ)
+recordCall from at size = ended (writePhaseFrom from (roomFrom at size))
+
+-- the place after what was written, or the refusal
+abbrev pub replyFrom : ℕ → Answer (List ℕ) → Reply
+replyFrom at (ok ys) = R.Done (at + length ys)
+replyFrom at (refusal n k) = R.Refused n k
+
+-- the lent bytes after a call from a place: what was written there, or nothing changed
+abbrev pub laidFrom : ℕ → Answer (List ℕ) → List ℕ → List ℕ
+laidFrom at (ok ys) out = placed at ys out
+laidFrom at (refusal n k) out = out
+
+-- the reply, and the lent bytes
+pub record RepliedFrom (at : ℕ) (a : Answer (List ℕ)) (r : Reply) (from to : List ℕ) : Type 0 where
+  pub answer : r ≡ replyFrom at a
+  pub bytes : to ≡ laidFrom at a from
