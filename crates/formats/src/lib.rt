@@ -1,5 +1,6 @@
 // Formats: CUBE messages, the ISF phase line, and the bytes of their records.
 pub mod block;
+pub mod block_line;
 pub mod block_reader;
 pub mod check;
 pub mod cube;
@@ -16,6 +17,10 @@ pub const LENGTH: u8 = 1;
 pub const TYPE: u8 = 3;
 
 pub const CHECK: u8 = 9;
+
+pub const OUT_OF_PLACE: u8 = 14;
+
+pub const NOT_CLOSED: u8 = 15;
 
 // The answer of a call that writes into a lent place: the number of bytes written, or the number of a refusal and its column.
 pub enum Reply {

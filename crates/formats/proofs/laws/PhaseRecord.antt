@@ -41,19 +41,19 @@ module _ (l : List ℕ) (room : ℕ) where
   unfolding readPhaseInto
   phase-into h = rw (le-ltb room 231 h)
 
-record WasPhase (a : Answer Rec) (r : PhaseRead) : Type 0 where
-  value : Rec
-  is : a ≡ ok value
-  flags : r .flags ≡ over (flagsOf (value .numbers)) (replicate 18 0)
-  values : r .values ≡ over (valuesOf (value .numbers)) (replicate 18 (pos 0))
-  text : r .text ≡ over (value .chars) (replicate 68 0)
+pub record WasPhase (a : Answer Rec) (r : PhaseRead) : Type 0 where
+  pub value : Rec
+  pub is : a ≡ ok value
+  pub flags : r .flags ≡ over (flagsOf (value .numbers)) (replicate 18 0)
+  pub values : r .values ≡ over (valuesOf (value .numbers)) (replicate 18 (pos 0))
+  pub text : r .text ≡ over (value .chars) (replicate 68 0)
 
-was-phase : (a : Answer Rec) (r : PhaseRead) → r ≡ phaseOf a → r .read ≡ P.Line → WasPhase a r
+pub was-phase : (a : Answer Rec) (r : PhaseRead) → r ≡ phaseOf a → r .read ≡ P.Line → WasPhase a r
 was-phase (ok v) r e q =
     record { value = v; is = refl; flags = ap (λ (x : PhaseRead). x .flags) e; values = ap (λ (x : PhaseRead). x .values) e; text = ap (λ (x : PhaseRead). x .text) e }
 was-phase (refusal n k) r e q = let p : P.Refused n k ≡ P.Line = sym (ap (λ (x : PhaseRead). x .read) e) ∙ q in let z : _≡_ {A = ℕ} 0 1 = cc in let y : ⊥ = omega arith in absurd y
 
-was-no-phase : (a : Answer Rec) (r : PhaseRead) (n k : ℕ) → r ≡ phaseOf a → r .read ≡ P.Refused n k → a ≡ refusal n k
+pub was-no-phase : (a : Answer Rec) (r : PhaseRead) (n k : ℕ) → r ≡ phaseOf a → r .read ≡ P.Refused n k → a ≡ refusal n k
 was-no-phase (ok v) r n k e q = let p : P.Line ≡ P.Refused n k = sym (ap (λ (x : PhaseRead). x .read) e) ∙ q in let z : _≡_ {A = ℕ} 0 1 = cc in let y : ⊥ = omega arith in absurd y
 was-no-phase (refusal m j) r n k e q = let p : P.Refused m j ≡ P.Refused n k = sym (ap (λ (x : PhaseRead). x .read) e) ∙ q in cc
 

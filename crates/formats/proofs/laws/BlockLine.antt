@@ -1,0 +1,125 @@
+-- Laws of a block's line by itself: its trailing blanks, its last byte, and each answer of a comment.
+use Prim.Native.Nat.{ℕ, zero, suc, _+_, _-_, _≤_, _<_}
+use mathlib.Core.Path.{_≡_, refl, sym, ap, _∙_}
+use mathlib.Core.Bool.{Bool, true, false}
+use mathlib.Core.List.{List, [], _∷_, _++_}
+use native.Mathlib.Omega.{arith}
+use lib.Dec.{eqb}
+use lib.ListN.{length, take, drop, getD}
+use borrow.Author.Tests.{eq-eqb, ne-eqb, le-ltb, lt-ltb}
+use Rattle.columns.specs.Answer.{pick, Answer, ok, refusal, barredByte}
+use Rattle.columns.specs.Bytes.{isNone}
+use Rattle.formats.specs.Cube.{wrongLength}
+use Rattle.formats.specs.Phase.{lowestBarredByte}
+use Rattle.formats.specs.Block.{beforeTrimmed, trimEnd, lastByte, beginsComment, readComment, notClosed, outOfPlace}
+use Rattle.columns.specs.Column.{Rec}
+use Rattle.columns.specs.Table.{outcomeOf}
+use Rattle.formats.specs.Phase.{phaseOf}
+use Rattle.formats.specs.declared.phase.PhaseRead.{PhaseRead}
+use Rattle.formats.specs.declared.phase.Phase.the-variants as P
+use Rattle.columns.specs.declared.Outcome.the-variants as O
+use Rattle.formats.proofs.laws.PhaseRecord.{was-phase, was-no-phase}
+use Rattle.formats.proofs.laws.Cube.{differs-not, differs-is}
+
+-- ---- trailing blanks, one byte at the end at a time
+
+trim-end-blank : (s : List ℕ) (x : ℕ) → x ≡ 32 → trimEnd (s ++ x ∷ []) ≡ trimEnd s
+unfolding trimEnd
+trim-end-blank [] x e = rw (eq-eqb x 32 e)
+trim-end-blank (b ∷ s) x e = ap (beforeTrimmed b) (trim-end-blank s x e)
+
+before-kept : (b : ℕ) (s : List ℕ) (x : ℕ) → beforeTrimmed b (s ++ x ∷ []) ≡ b ∷ (s ++ x ∷ [])
+before-kept b [] x = refl
+before-kept b (a ∷ s) x = refl
+
+trim-end-other : (s : List ℕ) (x : ℕ) → (x ≡ 32 → ⊥) → trimEnd (s ++ x ∷ []) ≡ s ++ x ∷ []
+unfolding trimEnd
+trim-end-other [] x n = rw (ne-eqb x 32 n)
+trim-end-other (b ∷ s) x n = ap (beforeTrimmed b) (trim-end-other s x n) ∙ before-kept b s x
+
+take-last : (l : List ℕ) (i : ℕ) → i < length l → take (i + 1) l ≡ take i l ++ getD l i 0 ∷ []
+take-last [] i h = absurd (omega arith)
+take-last (b ∷ l) zero h = refl
+take-last (b ∷ l) (suc i) h = let e : suc i + 1 ≡ suc (i + 1) = omega arith in rw e (ap (λ (s : List ℕ). b ∷ s) (take-last l i (omega arith)))
+
+module _ (l : List ℕ) where
+  before : (i : ℕ) → 0 < i → i ≤ length l → take i l ≡ take (i - 1) l ++ getD l (i - 1) 0 ∷ []
+  before i p h = let e : i - 1 + 1 ≡ i = omega (arith, p) in ap (λ (n : ℕ). take n l) (sym e) ∙ take-last l (i - 1) (omega (arith, p, h))
+
+  pub trim-blank : (i : ℕ) → 0 < i → i ≤ length l → getD l (i - 1) 0 ≡ 32 → trimEnd (take i l) ≡ trimEnd (take (i - 1) l)
+  trim-blank i p h e = ap trimEnd (before i p h) ∙ trim-end-blank (take (i - 1) l) (getD l (i - 1) 0) e
+
+  pub trim-other : (i : ℕ) → 0 < i → i ≤ length l → (getD l (i - 1) 0 ≡ 32 → ⊥) → trimEnd (take i l) ≡ take i l
+  trim-other i p h n = ap trimEnd (before i p h) ∙ trim-end-other (take (i - 1) l) (getD l (i - 1) 0) n ∙ sym (before i p h)
+
+  pub trim-none : (i : ℕ) → i ≤ 0 → trimEnd (take i l) ≡ take i l
+  unfolding trimEnd
+  trim-none zero h = refl
+  trim-none (suc i) h = absurd (omega (arith, h))
+
+-- ---- the last byte
+
+last-after : (s : List ℕ) (x : ℕ) → lastByte (s ++ x ∷ []) ≡ x
+unfolding lastByte
+last-after [] x = refl
+last-after (b ∷ []) x = refl
+last-after (b ∷ a ∷ s) x = last-after (a ∷ s) x
+
+pub last-of : (l : List ℕ) (i : ℕ) → 0 < i → i ≤ length l → lastByte (take i l) ≡ getD l (i - 1) 0
+last-of l i p h = ap lastByte (before l i p h) ∙ last-after (take (i - 1) l) (getD l (i - 1) 0)
+
+-- ---- each answer of a comment, as the code comes to it
+
+module _ (seen : Bool) (l : List ℕ) where
+  pub comment-long : 1024 < length l → readComment seen l ≡ refusal wrongLength 0
+  unfolding readComment
+  comment-long h = rw (lt-ltb 1024 (length l) h)
+
+  module _ (h : length l ≤ 1024) where
+    pub comment-barred : (k : ℕ) → k ≡ lowestBarredByte l → (k ≡ 0 → ⊥) → readComment seen l ≡ refusal barredByte k
+    unfolding readComment
+    comment-barred k e n = rw (le-ltb 1024 (length l) h, differs-is (lowestBarredByte l) 0 (λ q. n (e ∙ q)), e)
+
+    module _ (e : lowestBarredByte l ≡ 0) where
+      pub comment-open : (lastByte (trimEnd l) ≡ 41 → ⊥) → readComment seen l ≡ refusal notClosed 0
+      unfolding readComment
+      comment-open n = rw (le-ltb 1024 (length l) h, differs-not (lowestBarredByte l) 0 e, differs-is (lastByte (trimEnd l)) 41 n)
+
+      pub comment-closed : lastByte (trimEnd l) ≡ 41 → readComment seen l ≡ pick seen (ok l) (refusal outOfPlace 0)
+      unfolding readComment
+      comment-closed q = rw (le-ltb 1024 (length l) h, differs-not (lowestBarredByte l) 0 e, differs-not (lastByte (trimEnd l)) 41 q)
+
+pub seen-told : (l : List ℕ) (seen : Bool) → seen ≡ true → outcomeOf (pick seen (ok l) (refusal outOfPlace 0)) ≡ O.Done
+seen-told l seen e = rw e
+
+pub unseen-told : (l : List ℕ) (seen : Bool) → seen ≡ false → outcomeOf (pick seen (ok l) (refusal outOfPlace 0)) ≡ O.Refused outOfPlace 0
+unseen-told l seen e = rw e
+
+-- ---- whether a line begins a comment, as the code comes to it
+
+pick-false : (t : Bool) → pick t false false ≡ false
+pick-false true = refl
+pick-false false = refl
+
+by-length : (l : List ℕ) → length l < 2 → beginsComment l ≡ false
+by-length [] h = refl
+by-length (b ∷ []) h = pick-false (eqb b 32)
+by-length (b ∷ x ∷ l) h = absurd (omega arith)
+
+module _ (l : List ℕ) where
+  pub begins-short : length l < 2 → beginsComment l ≡ false
+  begins-short h = by-length l h
+
+  pub begins-other : (getD l 0 0 ≡ 32 → ⊥) → beginsComment l ≡ false
+  begins-other n = rw (ne-eqb (getD l 0 0) 32 n)
+
+  pub begins-blank : getD l 0 0 ≡ 32 → beginsComment l ≡ eqb (getD l 1 0) 40
+  begins-blank e = rw (eq-eqb (getD l 0 0) 32 e)
+
+-- ---- a phase line's answer without its record
+
+pub phase-told : (a : Answer Rec) (r : PhaseRead) → r ≡ phaseOf a → r .read ≡ P.Line → O.Done ≡ outcomeOf a
+phase-told a r e q = rw (was-phase a r e q .is)
+
+pub no-phase-told : (a : Answer Rec) (r : PhaseRead) (n k : ℕ) → r ≡ phaseOf a → r .read ≡ P.Refused n k → O.Refused n k ≡ outcomeOf a
+no-phase-told a r n k e q = rw (was-no-phase a r n k e q)
