@@ -5,6 +5,7 @@ pub mod block_reader;
 pub mod check;
 pub mod cube;
 pub mod cube_record;
+pub mod header;
 pub mod judge;
 pub mod lines;
 pub mod phase;
