@@ -10,3 +10,4 @@ pub mod Header
 pub mod Block
 pub mod BlockReader
 pub mod BlockWriting
+pub mod BlockSteps
