@@ -14,3 +14,4 @@ pub mod PhaseRecordBack
 pub mod Judge
 pub mod BlockLine
 pub mod BlockReader
+pub mod Block

@@ -50,7 +50,7 @@ fn count(judged: Outcome, phases: usize, comments: usize) -> Step
 }
 
 // A line after the header, with the counts before it.
-fn step(line: &[u8], phases: usize, comments: usize) -> Step
+fn line_step(line: &[u8], phases: usize, comments: usize) -> Step
     requires { ⌜ (phases < 70000) × (comments < 70000) ⌝ }
     ensures { λ r. ⌜ r ≡ stepOf (kindOf (now (line .entry))) phases comments (now (line .entry)) ⌝ }
 {
@@ -78,7 +78,7 @@ fn read_lines(block: &[u8], from: usize) -> Block
         match found {
             Line::End => return Block::Read(phases, comments, at),
             Line::Found(start, end, next) => {
-                let stepped = step(&block[start..end], phases, comments);
+                let stepped = line_step(&block[start..end], phases, comments);
                 match stepped {
                     Step::Closing => return Block::Read(phases, comments, next),
                     Step::Refused(number, column) => return Block::Refused(number, column, line),

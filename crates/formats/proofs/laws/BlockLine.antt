@@ -10,11 +10,12 @@ use borrow.Author.Tests.{eq-eqb, ne-eqb, le-ltb, lt-ltb}
 use Rattle.columns.specs.Answer.{pick, Answer, ok, refusal, barredByte}
 use Rattle.columns.specs.Bytes.{isNone}
 use Rattle.formats.specs.Cube.{wrongLength}
-use Rattle.formats.specs.Phase.{lowestBarredByte}
-use Rattle.formats.specs.Block.{beforeTrimmed, trimEnd, lastByte, beginsComment, readComment, notClosed, outOfPlace}
+use Rattle.formats.specs.Header.{phaseHeader}
+use Rattle.formats.specs.Record.{sameBytes}
+use Rattle.formats.specs.Phase.{lowestBarredByte, phaseOf}
+use Rattle.formats.specs.Block.{isHeader, kindOf, closing, comment, phase, beforeTrimmed, trimEnd, lastByte, beginsComment, readComment, notClosed, outOfPlace}
 use Rattle.columns.specs.Column.{Rec}
 use Rattle.columns.specs.Table.{outcomeOf}
-use Rattle.formats.specs.Phase.{phaseOf}
 use Rattle.formats.specs.declared.phase.PhaseRead.{PhaseRead}
 use Rattle.formats.specs.declared.phase.Phase.the-variants as P
 use Rattle.columns.specs.declared.Outcome.the-variants as O
@@ -123,3 +124,29 @@ phase-told a r e q = rw (was-phase a r e q .is)
 
 pub no-phase-told : (a : Answer Rec) (r : PhaseRead) (n k : ℕ) → r ≡ phaseOf a → r .read ≡ P.Refused n k → O.Refused n k ≡ outcomeOf a
 no-phase-told a r n k e q = rw (was-no-phase a r n k e q)
+
+-- ---- a line's kind, as the code comes to it
+
+some-taken : (l : List ℕ) (n : ℕ) → n ≤ length l → (n ≡ 0 → ⊥) → isNone (take n l) ≡ false
+some-taken l zero h z = absurd (z refl)
+some-taken [] (suc n) h z = absurd (omega (arith, h))
+some-taken (b ∷ l) (suc n) h z = refl
+
+trimmed-some : (l : List ℕ) (n : ℕ) → trimEnd l ≡ take n l → n ≤ length l → (n ≡ 0 → ⊥) → isNone (trimEnd l) ≡ false
+trimmed-some l n e h z = ap isNone e ∙ some-taken l n h z
+
+module _ (l : List ℕ) (n : ℕ) (e : trimEnd l ≡ take n l) where
+  pub kind-closing : n ≡ 0 → kindOf l ≡ closing
+  kind-closing z = let t : isNone (trimEnd l) ≡ true = ap isNone (e ∙ ap (λ (m : ℕ). take m l) z) in rw t
+
+  module _ (h : n ≤ length l) (z : n ≡ 0 → ⊥) where
+    pub kind-comment : beginsComment l ≡ true → kindOf l ≡ comment
+    kind-comment c = let t : isNone (trimEnd l) ≡ false = trimmed-some l n e h z in rw (t, c)
+
+    pub kind-phase : beginsComment l ≡ false → kindOf l ≡ phase
+    kind-phase c = let t : isNone (trimEnd l) ≡ false = trimmed-some l n e h z in rw (t, c)
+
+-- ---- the header, as the code looks at it
+
+pub header-same : (l : List ℕ) (n : ℕ) (w : List ℕ) → trimEnd l ≡ take n l → w ≡ phaseHeader → sameBytes (take (n - 0) (drop 0 l)) w ≡ isHeader phaseHeader l
+header-same l n w e f = let z : n - 0 ≡ n = omega arith in rw (z, f, e)
