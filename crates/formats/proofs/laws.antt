@@ -12,3 +12,4 @@ pub mod PhaseBack
 pub mod PhaseRecord
 pub mod PhaseRecordBack
 pub mod Judge
+pub mod BlockWriter

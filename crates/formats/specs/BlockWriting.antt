@@ -9,6 +9,7 @@ use Rattle.columns.specs.Answer.{Answer, ok, refusal, tooShort}
 use Rattle.columns.specs.Table.{placed}
 use Rattle.formats.specs.Cube.{unless}
 use Rattle.formats.specs.Lines.{newline}
+use Rattle.formats.specs.Record.{replyOf}
 use Rattle.formats.specs.PhaseRecord.{writePhaseFrom}
 use Rattle.formats.specs.Header.{phaseHeader}
 use Rattle.formats.specs.declared.Reply.{Reply}
@@ -23,7 +24,7 @@ ended (refusal n k) = refusal n k
 abbrev pub writeHeader : ℕ → Answer (List ℕ)
 writeHeader room = unless (ltb room (length phaseHeader)) tooShort 0 (ok phaseHeader)
 
--- the bytes from a place on, one of them for the newline
+-- the room for a line: the bytes from a place on but one, which is for the newline
 abbrev pub roomFrom : ℕ → ℕ → ℕ
 roomFrom at size = size - at - 1
 
@@ -34,10 +35,15 @@ headerCall at size = ended (writeHeader (roomFrom at size))
 unfoldable pub recordCall : List ℕ → ℕ → ℕ → Answer (List ℕ)
 recordCall from at size = ended (writePhaseFrom from (roomFrom at size))
 
--- the place after what was written, or the refusal
-abbrev pub replyFrom : ℕ → Answer (List ℕ) → Reply
-replyFrom at (ok ys) = R.Done (at + length ys)
-replyFrom at (refusal n k) = R.Refused n k
+-- how many bytes a reply says were written
+abbrev pub bytesIn : Reply → ℕ
+bytesIn (R.Done n) = n
+bytesIn (R.Refused n k) = 0
+
+-- the reply to what was written from a place on: the place after it, or the refusal
+abbrev pub fromPlace : ℕ → Reply → Reply
+fromPlace at (R.Done n) = R.Done (at + n)
+fromPlace at (R.Refused n k) = R.Refused n k
 
 -- the lent bytes after a call from a place: what was written there, or nothing changed
 abbrev pub laidFrom : ℕ → Answer (List ℕ) → List ℕ → List ℕ
@@ -46,5 +52,5 @@ laidFrom at (refusal n k) out = out
 
 -- the reply, and the lent bytes
 pub record RepliedFrom (at : ℕ) (a : Answer (List ℕ)) (r : Reply) (from to : List ℕ) : Type 0 where
-  pub answer : r ≡ replyFrom at a
+  pub answer : r ≡ fromPlace at (replyOf a)
   pub bytes : to ≡ laidFrom at a from

@@ -1,6 +1,7 @@
 // Formats: CUBE messages, the ISF phase line, and the bytes of their records.
 pub mod block;
 pub mod block_reader;
+pub mod block_writer;
 pub mod check;
 pub mod cube;
 pub mod cube_record;
