@@ -13,3 +13,4 @@ pub mod PhaseRecord
 pub mod PhaseRecordBack
 pub mod Judge
 pub mod BlockWriter
+pub mod BlockWriting

@@ -22,12 +22,12 @@ use Rattle.formats.specs.declared.Reply.the-variants as R
 
 -- ---- what a reply says of the answer
 
-pub record Written (a : Answer (List ℕ)) (n : ℕ) : Type 0 where
-  pub line : List ℕ
-  pub is : a ≡ ok line
-  pub size : length line ≡ n
+record Written (a : Answer (List ℕ)) (n : ℕ) : Type 0 where
+  line : List ℕ
+  is : a ≡ ok line
+  size : length line ≡ n
 
-pub done-reply : (a : Answer (List ℕ)) (n : ℕ) → R.Done n ≡ replyOf a → Written a n
+done-reply : (a : Answer (List ℕ)) (n : ℕ) → R.Done n ≡ replyOf a → Written a n
 done-reply (ok ys) n e = record { line = ys; is = refl; size = cc }
 done-reply (refusal m k) n e = let z : _≡_ {A = ℕ} 0 1 = cc in let y : ⊥ = omega arith in absurd y
 
