@@ -15,3 +15,5 @@ pub mod Judge
 pub mod BlockLine
 pub mod BlockReader
 pub mod Block
+pub mod BlockWriter
+pub mod BlockWriting

@@ -11,3 +11,4 @@ pub mod Block
 pub mod BlockReader
 pub mod BlockWriting
 pub mod BlockSteps
+pub mod BlockWalk

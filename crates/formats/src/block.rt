@@ -32,7 +32,7 @@ pub enum Step {
 }
 
 // Whether a line, trailing blanks removed, is the header.
-fn is_header(line: &[u8]) -> bool
+pub fn is_header(line: &[u8]) -> bool
     ensures { λ r. ⌜ r ≡ isHeader phaseHeader (now (line .entry)) ⌝ }
 {
     let n = trimmed(line);

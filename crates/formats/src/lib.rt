@@ -2,6 +2,8 @@
 pub mod block;
 pub mod block_line;
 pub mod block_reader;
+pub mod block_walk;
+pub mod block_writer;
 pub mod check;
 pub mod cube;
 pub mod cube_record;

@@ -17,7 +17,7 @@ use Rattle.formats.specs.Header.{phaseHeader}
 use Rattle.formats.specs.Lines.{linesOf, lineEnd}
 use Rattle.formats.specs.Block.{Kind, closing, comment, phase, kindOf, isHeader, readComment, outOfPlace, plus, onLine, withNewline, readLine, readLines, readHeaded, atMost, readBlock}
 use Rattle.formats.specs.BlockSteps.{counted, stepOf}
-use Rattle.formats.specs.BlockReader.{pastNewline, lineAt}
+use Rattle.formats.specs.BlockReader.{lineOf, nextOf, pastNewline, lineAt}
 use Rattle.formats.proofs.laws.Lines.{lines-next, lines-none, line-end-from, line-end-to}
 use Rattle.formats.specs.declared.block.Block.{Block}
 use Rattle.formats.specs.declared.block.Block.the-variants as B
@@ -103,13 +103,6 @@ none-capped size p k u n s ls e h =
     let c : k + 0 ≡ k = omega arith in
     let d : u + 0 ≡ u = omega arith in
     rw (e, a, c, d, capped size u h)
-
--- the line at a place, and the place after it
-abbrev pub lineOf : List ℕ → ℕ → List ℕ
-lineOf b at = take (lineEnd b at - at) (drop at b)
-
-abbrev pub nextOf : List ℕ → ℕ → ℕ
-nextOf b at = pastNewline b (lineEnd b at)
 
 past-newline : (b : List ℕ) (e : ℕ) → e < length b → pastNewline b e ≡ e + 1
 past-newline b e h = rw (lt-ltb e (length b) h)

@@ -10,7 +10,7 @@ use lib.Seq.{length-take-le}
 use borrow.Author.Tests.{ltb-false}
 use Rattle.columns.specs.Answer.{pick, Answer, ok, refusal, badForm, barredByte, tooShort}
 use Rattle.columns.specs.Column.{Rec, good, widths}
-use Rattle.columns.specs.Writing.{writeLine}
+use Rattle.columns.specs.Writing.{writeColumns, writeLine}
 use Rattle.columns.proofs.laws.Answers.{passed, held}
 use Rattle.columns.proofs.laws.Tests.{both-true}
 use Rattle.formats.specs.Record.{sameBytes}
@@ -50,17 +50,31 @@ through : (a : Answer Rec) (room : ℕ) (ys : List ℕ) → phaseLineAnswer a ro
 through (ok m) room ys e = record { value = m; is = refl; wrote = e }
 through (refusal n k) room ys e = let z : _≡_ {A = ℕ} 0 1 = cc in let y : ⊥ = omega arith in absurd y
 
+-- a line that was written from some bytes: they are a record, and the line reads back to it
+pub record WrittenPhase (r ys : List ℕ) (room : ℕ) : Type 0 where
+  pub value : Rec
+  pub named : readPhaseRecord r ≡ ok value
+  pub back : readPhase ys ≡ ok value
+  pub size : length ys ≡ 199
+  pub fits : 199 ≤ room
+
+pub phase-written : (r ys : List ℕ) (room : ℕ) → writePhaseFrom r room ≡ ok ys → WrittenPhase r ys room
+unfolding writePhaseFrom writeLine widths
+phase-written r ys room e =
+    let t = through (readPhaseRecord r) room ys e in
+    let m = t .value in
+    let w = phase-record-one r m (t .is) in
+    let n : length (take 231 r) ≡ 231 = length-take-le 231 r (w .long) in
+    let a : length (m .numbers) ≡ 18 = ap (λ (x : Rec). length (x .numbers)) (sym (w .named)) ∙ numbers-length 18 (drop 1 (take 231 r)) (drop 19 (take 231 r)) in
+    let b : length (m .chars) ≡ 68 = ap (λ (x : Rec). length (x .chars)) (sym (w .named)) ∙ length-take-le 68 (drop 163 (take 231 r)) (omega (arith, length-drop 163 (take 231 r))) in
+    let f = passed (ltb room 199) tooShort 0 (writeColumns phaseColumns [] 0 (m .numbers) (m .chars)) ys (t .wrote) in
+    record { value = m; named = t .is; back = phase-back (m .numbers) (m .chars) ys room a b (t .wrote); size = phase-size (m .numbers) (m .chars) ys room a b (t .wrote); fits = ltb-false room 199 (f .0) }
+
 -- a record that is written reads back to the same bytes
 pub phase-from-back : (r ys : List ℕ) (room : ℕ) → writePhaseFrom r room ≡ ok ys → readPhaseInto ys 231 ≡ ok (take 231 r)
-unfolding writePhaseFrom
 phase-from-back r ys room e =
-    let t = through (readPhaseRecord r) room ys e in
-    let w = phase-record-one r (t .value) (t .is) in
-    let n : length (take 231 r) ≡ 231 = length-take-le 231 r (w .long) in
-    let k : writeLine phaseColumns (phaseIn (take 231 r) .numbers) (phaseIn (take 231 r) .chars) room ≡ ok ys = ap (λ (m : Rec). writeLine phaseColumns (m .numbers) (m .chars) room) (w .named) ∙ t .wrote in
-    let b : readPhase ys ≡ ok (phaseIn (take 231 r)) =
-    phase-back (phaseIn (take 231 r) .numbers) (phaseIn (take 231 r) .chars) ys room (numbers-length 18 (drop 1 (take 231 r)) (drop 19 (take 231 r))) (length-take-le 68 (drop 163 (take 231 r)) (omega (arith, length-drop 163 (take 231 r)))) k in
-    phase-into ys 231 (omega arith) ∙ ap phaseAnswer (b ∙ ap ok (w .named)) ∙ ap ok (sym (w .bytes))
+    let p = phase-written r ys room e in
+    phase-into ys 231 (omega arith) ∙ ap phaseAnswer (p .back) ∙ ap ok (sym (phase-record-one r (p .value) (p .named) .bytes))
 
 -- ---- the column of a refusal, and the number of bytes written
 
@@ -118,18 +132,9 @@ phase-into-size l room = by-test (ltb room phaseSize)
     by-test true = omega arith
     by-test false = by-line (readPhase l) refl
 
-written-size : (r : List ℕ) (room : ℕ) (ys : List ℕ) → writePhaseFrom r room ≡ ok ys → length ys ≤ 199
-unfolding writePhaseFrom
-written-size r room ys e =
-    let t = through (readPhaseRecord r) room ys e in
-    let w = phase-record-one r (t .value) (t .is) in
-    let n : length (take 231 r) ≡ 231 = length-take-le 231 r (w .long) in
-    let k : writeLine phaseColumns (phaseIn (take 231 r) .numbers) (phaseIn (take 231 r) .chars) room ≡ ok ys = ap (λ (m : Rec). writeLine phaseColumns (m .numbers) (m .chars) room) (w .named) ∙ t .wrote in
-    omega (arith, phase-size (phaseIn (take 231 r) .numbers) (phaseIn (take 231 r) .chars) ys room (numbers-length 18 (drop 1 (take 231 r)) (drop 19 (take 231 r))) (length-take-le 68 (drop 163 (take 231 r)) (omega (arith, length-drop 163 (take 231 r)))) k)
-
 pub phase-from-size : (r : List ℕ) (room : ℕ) → sizeOf (writePhaseFrom r room) ≤ 199
 phase-from-size r room = by-answer (writePhaseFrom r room) refl
   where
     by-answer : (a : Answer (List ℕ)) → writePhaseFrom r room ≡ a → sizeOf a ≤ 199
-    by-answer (ok ys) e = written-size r room ys e
+    by-answer (ok ys) e = omega (arith, phase-written r ys room e .size)
     by-answer (refusal n k) e = omega arith

@@ -229,7 +229,7 @@ unfolding slotsIn
 numbers-length zero fs s = refl
 numbers-length (suc i) fs s = ap suc (numbers-length i (drop 1 fs) (drop 8 s))
 
-set-over : {A : Type 0} (xs l out : List A) (x : A) (i : ℕ) → length xs ≡ i → i < length l → out ≡ over xs l → set out i x ≡ over (xs ++ x ∷ []) l
+pub set-over : {A : Type 0} (xs l out : List A) (x : A) (i : ℕ) → length xs ≡ i → i < length l → out ≡ over xs l → set out i x ≡ over (xs ++ x ∷ []) l
 set-over xs l out x i n h e =
     let k : length out ≡ length l = ap length e ∙ placed-length 0 xs l (omega arith) in
     let z : i ≡ 0 + length xs = omega arith in
