@@ -17,3 +17,4 @@ pub mod BlockReader
 pub mod Block
 pub mod BlockWriter
 pub mod BlockWriting
+pub mod BlockWalk

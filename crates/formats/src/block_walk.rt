@@ -57,7 +57,7 @@ fn one_phase(line: &[u8]) -> usize
 // The phase lines from place `from` on.
 fn count_phases(s: &[u8], from: usize) -> usize
     requires { ⌜ from ≤ length (now s) ⌝ }
-    ensures { λ r. ⌜ r ≡ phasesIn (linesOf (drop from (now (s .entry)))) ⌝ }
+    ensures { λ r. ⌜ (r ≡ phasesIn (linesOf (drop from (now (s .entry))))) × (r ≤ length (now (s .entry))) ⌝ }
 {
     let mut at = from;
     let mut n = 0;
@@ -77,7 +77,7 @@ fn count_phases(s: &[u8], from: usize) -> usize
 // The phase lines before a place.
 fn phases_before(block: &[u8], at: usize) -> usize
     requires { ⌜ at ≤ length (now block) ⌝ }
-    ensures { λ r. ⌜ r ≡ phasesBefore (now (block .entry)) at ⌝ }
+    ensures { λ r. ⌜ (r ≡ phasesBefore (now (block .entry)) at) × (r ≤ at) ⌝ }
 {
     let s = &block[0..at];
     let first = line_from(s, 0);

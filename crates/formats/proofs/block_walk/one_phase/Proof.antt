@@ -1,35 +1,26 @@
+use Rattle.formats.specs.BlockWalk.{isPhase}
+use Rattle.formats.proofs.laws.BlockLine.{kind-closing, kind-comment, kind-phase}
+use mathlib.Core.Path.{sym, ap, _∙_}
+use Prim.Native.Nat.{_-_}
+use lib.ListN.{take}
 use borrow.Author.Needs.{needs}
-use native.Mathlib.Omega.{arith}
-use mathlib.Core.Path.{_≡_, refl, sym, ap, _∙_}
-use Prim.Native.Nat.{ℕ, _≤_, _<_, _-_, _+_}
-use lib.ListN.{length, getD, take, drop, set}
-use mathlib.Core.List.{List, [], _∷_, _++_}
 use Rattle.formats.proofs.block_walk.one_phase.Statement.{statement}
 use Rattle.formats.proofs.block_walk.one_phase.Tie as tie
-use Rattle.formats.proofs.block_walk.one_phase.Reads as reads
-use Rattle.formats.proofs.block_walk.one_phase.Lts as lts
-use Rattle.formats.proofs.block_line.begins_comment.Reads as begins-comment-reads
-use Rattle.formats.proofs.block_line.trimmed.Reads as trimmed-reads
 
--- src/block_walk.rt:48:8
 trimmed-requires : tie.Need-trimmed-requires
 trimmed-requires c κs = search needs
 
--- src/block_walk.rt:49:9
 returns : tie.Need-returns
-returns c = search needs
+returns c = sym (ap isPhase (kind-closing (c .before .before .before .args .line .now) _ (c .before .trimmed .ensures .0) (c .if1 .taken)))
 
--- src/block_walk.rt:51:8
 begins-comment-requires : tie.Need-begins-comment-requires
 begins-comment-requires c κs = search needs
 
--- src/block_walk.rt:52:9
 returns-2 : tie.Need-returns-2
-returns-2 c = search needs
+returns-2 c = sym (ap isPhase (kind-comment (c .before .before .before .before .before .args .line .now) _ (c .before .before .before .trimmed .ensures .0) (c .before .before .before .trimmed .ensures .1) (c .before .before .if1 .left) (sym (c .before .begins-comment .ensures) ∙ c .if2 .taken)))
 
--- src/block_walk.rt:45:1
 returns-3 : tie.Need-returns-3
-returns-3 c = search needs
+returns-3 c = sym (ap isPhase (kind-phase (c .before .before .before .before .before .args .line .now) _ (c .before .before .before .trimmed .ensures .0) (c .before .before .before .trimmed .ensures .1) (c .before .before .if1 .left) (sym (c .before .begins-comment .ensures) ∙ c .if2 .left)))
 
 pub one-phase-spec : {M : Type 1} → statement M
 one-phase-spec =
