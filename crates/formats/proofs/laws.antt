@@ -18,3 +18,4 @@ pub mod Block
 pub mod BlockWriter
 pub mod BlockWriting
 pub mod BlockWalk
+pub mod BlockBounds

@@ -2,6 +2,7 @@
 // starts at a given place.
 use super::Reply;
 use super::header::header;
+use super::lines::NEWLINE;
 use super::phase_record::write_phase_from;
 use columns::bytes::copy;
 ghost use mathlib.Core.Path.{_≡_};
@@ -10,8 +11,6 @@ ghost use lib.ListN.{length};
 ghost use Rattle.formats.specs.Record.{Replied};
 ghost use Rattle.formats.specs.PhaseRecord.{writePhaseFrom};
 ghost use Rattle.formats.specs.BlockWriting.{ended, writeHeader, headerCall, recordCall, bytesIn, fromPlace, RepliedFrom};
-
-const NEWLINE: u8 = 10;
 
 // The bytes of a written line, without its newline.
 const WIDTH: usize = 199;

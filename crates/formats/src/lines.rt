@@ -4,7 +4,7 @@ ghost use Prim.Native.Nat.{_≤_};
 ghost use lib.ListN.{length};
 ghost use Rattle.formats.specs.Lines.{lineEnd};
 
-const NEWLINE: u8 = 10;
+pub const NEWLINE: u8 = 10;
 
 // Where the line that starts at `at` ends: its newline, or the end of `s`.
 pub fn line_end(s: &[u8], at: usize) -> usize

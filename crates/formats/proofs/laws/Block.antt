@@ -86,7 +86,7 @@ module _ (n u p k : ℕ) (l : List ℕ) (rest : Bool → Block) where
 
 -- ---- the lines from a place on
 
-lt-or-le : (a b : ℕ) → (a < b) ⊎ (b ≤ a)
+pub lt-or-le : (a b : ℕ) → (a < b) ⊎ (b ≤ a)
 lt-or-le zero zero = inr (omega arith)
 lt-or-le zero (suc b) = inl (omega arith)
 lt-or-le (suc a) zero = inr (omega arith)

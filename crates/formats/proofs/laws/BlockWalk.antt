@@ -25,7 +25,7 @@ pub record Counting (b : List ℕ) (from at n : ℕ) : Type 0 where
 pub counting-start : (b : List ℕ) (from : ℕ) → from ≤ length b → Counting b from from 0
 counting-start b from h = record { inside = h; few = omega arith; same = omega arith }
 
-one-low : (κ : Kind) → isPhase κ ≤ 1
+pub one-low : (κ : Kind) → isPhase κ ≤ 1
 one-low closing = omega arith
 one-low comment = omega arith
 one-low phase = omega arith

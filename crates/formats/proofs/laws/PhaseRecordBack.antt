@@ -82,7 +82,7 @@ long-case : (t : Bool) (l : List ℕ) (x : Answer Rec) → ltb 199 (length l) �
 long-case true l x e f = omega arith
 long-case false l x e f = f (ltb-false 199 (length l) e)
 
-phase-bound : (l : List ℕ) → columnOf (readPhase l) ≤ 199
+pub phase-bound : (l : List ℕ) → columnOf (readPhase l) ≤ 199
 unfolding readPhase good widths
 phase-bound l =
     let c : columnOf (readColumns phaseColumns [] 0 (blankFilled l)) ≤ 199 = omega (arith, read-bound phaseColumns [] 0 (blankFilled l) tt) in
