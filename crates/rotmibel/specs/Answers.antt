@@ -1,15 +1,19 @@
 -- The one number that a call returns: answer, column and length in fixed parts. include/rotmibel.h
 use mathlib.Core.Path.{_≡_}
 use mathlib.Core.List.{List}
-use Prim.Native.Nat.{ℕ, _+_, _*_, _<_}
+use Prim.Native.Nat.{ℕ, _+_, _*_, _%_, _<_}
 use lib.ListN.{length}
 use Rattle.columns.specs.Answer.{Answer, ok, refusal}
 use Rattle.columns.specs.Table.{laid}
 use Rattle.catalogue.specs.declared.Looked.{Looked}
+use Rattle.formats.specs.BlockWriting.{laidFrom}
 use Rattle.formats.specs.declared.Reply.{Reply}
+use Rattle.formats.specs.declared.block.Block.{Block}
+use Rattle.formats.specs.declared.block.Block.the-variants as B
+use Rattle.formats.specs.declared.block_walk.BlockLine.{BlockLine}
 use Rattle.formats.specs.declared.Reply.the-variants as R
 
--- the answer in the lowest 8 bits, the column in the next 16, the length in the 24 after them
+-- the answer in the lowest 8 bits, the column in the next 16, the length in the 40 after them
 abbrev pub parts : ℕ → ℕ → ℕ → ℕ
 parts answer column len = answer + 256 * column + 16777216 * len
 
@@ -25,7 +29,7 @@ numberIn (R.Refused n k) = parts n k 0
 
 -- a reply whose length and column fit their parts
 abbrev pub small : Reply → Type 0
-small (R.Done len) = len < 16777216
+small (R.Done len) = len < 1099511627776
 small (R.Refused n k) = k < 65536
 
 -- what a call returns, and the lent bytes: what was written over the first of them, or nothing changed
@@ -36,3 +40,35 @@ pub record Answered (a : Answer (List ℕ)) (r : ℕ) (from to : List ℕ) : Typ
 -- a look-up's answer, with the place of the held line where a length stands
 abbrev pub lookedNumber : Looked → ℕ
 lookedNumber x = parts (x .number) 0 (x .place)
+
+-- ---- the phase block
+
+-- on 0 the phase count stands where a column does; the comment count (16 bits) and the bytes used where a length does
+-- a refusal has its column, and its line where a length stands
+abbrev pub blockNumber : Block → ℕ
+blockNumber (B.Read phases comments used) = parts 0 phases (comments + 65536 * used)
+blockNumber (B.Refused number column line) = parts number column line
+
+-- a line's kind; the number of its phase line where a column stands; its end (20 bits) and the place after it where a length does
+abbrev pub lineNumber : BlockLine → ℕ
+lineNumber x = parts (x .kind) (x .phase) (x .end + 1048576 * x .next)
+
+-- the place after what was written, modulo 2^40, where a length stands
+abbrev pub placeNumber : ℕ → Answer (List ℕ) → ℕ
+placeNumber at (ok ys) = parts 0 0 ((at + length ys) % 1099511627776)
+placeNumber at (refusal n k) = parts n k 0
+
+-- the same, of a reply as the code has it
+abbrev pub placeIn : Reply → ℕ
+placeIn (R.Done place) = parts 0 0 (place % 1099511627776)
+placeIn (R.Refused n k) = parts n k 0
+
+-- a reply whose column fits its part
+abbrev pub lowColumn : Reply → Type 0
+lowColumn (R.Done place) = Unit {0}
+lowColumn (R.Refused n k) = k < 65536
+
+-- what a call from a place returns, and the lent bytes: what was written there, or nothing changed
+pub record AnsweredFrom (at : ℕ) (a : Answer (List ℕ)) (r : ℕ) (from to : List ℕ) : Type 0 where
+  pub answer : r ≡ placeNumber at a
+  pub bytes : to ≡ laidFrom at a from

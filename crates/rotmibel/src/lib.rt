@@ -3,6 +3,11 @@ use catalogue::look_up::look_up;
 use catalogue::order::check_order;
 use catalogue::order::take_line;
 use formats::Reply;
+use formats::block::Block;
+use formats::block::read_block;
+use formats::block_walk::block_line;
+use formats::block_writer::write_header;
+use formats::block_writer::write_record;
 use formats::cube_record::read_into;
 use formats::cube_record::write_from;
 use formats::phase_record::read_phase_into;
@@ -12,13 +17,16 @@ ghost use Prim.Native.Nat.{_<_};
 ghost use lib.ListN.{length};
 ghost use Rattle.formats.specs.CubeRecord.{readInto, writeFrom};
 ghost use Rattle.formats.specs.PhaseRecord.{readPhaseInto, writePhaseFrom};
+ghost use Rattle.formats.specs.Block.{readBlock};
+ghost use Rattle.formats.specs.BlockWalk.{blockLine};
+ghost use Rattle.formats.specs.BlockWriting.{headerCall, recordCall};
 ghost use Rattle.catalogue.specs.Room.{answerOf, columnOf, roomAfter, orderOf};
 ghost use Rattle.catalogue.specs.LookUp.{lookUp};
-ghost use Rattle.rotmibel.specs.Answers.{parts, numberIn, small, lookedNumber, Answered};
+ghost use Rattle.rotmibel.specs.Answers.{parts, numberIn, small, lookedNumber, blockNumber, lineNumber, placeIn, lowColumn, Answered, AnsweredFrom};
 
 // Answer, column and length in one number.
 fn parts_of(answer: u8, column: usize, len: usize) -> u64
-    requires { ⌜ (column < 65536) × (len < 16777216) ⌝ }
+    requires { ⌜ (column < 65536) × (len < 1099511627776) ⌝ }
     ensures { λ n. ⌜ n ≡ parts answer column len ⌝ }
 {
     (answer as u64) + 256 * (column as u64) + 16777216 * (len as u64)
@@ -31,6 +39,17 @@ fn number_of(r: Reply) -> u64
 {
     match r {
         Reply::Done(len) => parts_of(0, 0, len),
+        Reply::Refused(number, column) => parts_of(number, column, 0),
+    }
+}
+
+// The reply of a call from a place as one number.
+fn place_of(r: Reply) -> u64
+    requires { ⌜ lowColumn r ⌝ }
+    ensures { λ n. ⌜ n ≡ placeIn r ⌝ }
+{
+    match r {
+        Reply::Done(place) => parts_of(0, 0, place % 1099511627776),
         Reply::Refused(number, column) => parts_of(number, column, 0),
     }
 }
@@ -91,4 +110,41 @@ pub extern "C" fn rotmibel_write_phase(from: &[u8], out: &mut [u8]) -> u64
     ensures { λ r. ⌜ Answered (writePhaseFrom (now (from .entry)) (length (now (out .entry)))) r (now (out .entry)) (now (out .exit)) ⌝ }
 {
     number_of(write_phase_from(from, out))
+}
+
+// A phase block read.
+#[no_mangle]
+pub extern "C" fn rotmibel_read_block(block: &[u8]) -> u64
+    ensures { λ r. ⌜ r ≡ blockNumber (readBlock (now (block .entry))) ⌝ }
+{
+    let outcome = read_block(block);
+    match outcome {
+        Block::Read(phases, comments, used) => parts_of(0, phases, comments + 65536 * used),
+        Block::Refused(number, column, line) => parts_of(number, column, line),
+    }
+}
+
+// What the line at a place of a block is.
+#[no_mangle]
+pub extern "C" fn rotmibel_block_line(block: &[u8], at: usize) -> u64
+    ensures { λ r. ⌜ r ≡ lineNumber (blockLine (now (block .entry)) at) ⌝ }
+{
+    let line = block_line(block, at);
+    parts_of(line.kind, line.phase, line.end + 1048576 * line.next)
+}
+
+// The header of a block written from a place on.
+#[no_mangle]
+pub extern "C" fn rotmibel_write_header(out: &mut [u8], at: usize) -> u64
+    ensures { λ r. ⌜ AnsweredFrom at (headerCall at (length (now (out .entry)))) r (now (out .entry)) (now (out .exit)) ⌝ }
+{
+    place_of(write_header(out, at))
+}
+
+// A phase record written as a line of a block, from a place on.
+#[no_mangle]
+pub extern "C" fn rotmibel_write_record(from: &[u8], out: &mut [u8], at: usize) -> u64
+    ensures { λ r. ⌜ AnsweredFrom at (recordCall (now (from .entry)) at (length (now (out .entry)))) r (now (out .entry)) (now (out .exit)) ⌝ }
+{
+    place_of(write_record(from, out, at))
 }
