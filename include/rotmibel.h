@@ -11,7 +11,8 @@
  * WHAT EVERY CALL RETURNS: one number in three parts.
  *   bits  0 to  7   the answer, ROTMIBEL_READ or one of the refusals below
  *   bits  8 to 23   the column of a refusal, from 1; 0 where the refusal names none
- *   bits 24 to 47   the number of bytes written to the lent buffer, or the place of a look-up; 0 after a refusal
+ *   bits 24 to 63   the number of bytes written to the lent buffer, or the place of a look-up; 0 after a refusal
+ * Calls on a block put other numbers into the second and third parts; each says which, and has macros of its own.
  * After a refusal (answers 1 to 19) nothing lent has changed. Otherwise only the bytes written have.
  */
 #ifndef ROTMIBEL_H
@@ -27,7 +28,18 @@ extern "C" {
 /* The parts of what a call returns. */
 #define ROTMIBEL_ANSWER(r) ((unsigned)((r) & 0xff))
 #define ROTMIBEL_COLUMN(r) ((unsigned)(((r) >> 8) & 0xffff))
-#define ROTMIBEL_LENGTH(r) ((size_t)(((r) >> 24) & 0xffffff))
+#define ROTMIBEL_LENGTH(r) ((size_t)((r) >> 24))
+
+/* The parts of what a call on a block returns. */
+#define ROTMIBEL_PHASE_COUNT(r) ((size_t)(((r) >> 8) & 0xffff))    /* rotmibel_read_block, READ: the phase lines */
+#define ROTMIBEL_COMMENT_COUNT(r) ((size_t)(((r) >> 24) & 0xffff)) /* rotmibel_read_block, READ: the comments */
+#define ROTMIBEL_BYTES_USED(r) ((size_t)((r) >> 40))               /* rotmibel_read_block, READ: the bytes used */
+#define ROTMIBEL_LINE_NUMBER(r) ((size_t)((r) >> 24))              /* rotmibel_read_block, refused: the line, from 1 */
+#define ROTMIBEL_LINE_KIND(r) ROTMIBEL_ANSWER(r)                   /* rotmibel_block_line: what the line is */
+#define ROTMIBEL_LINE_PHASE(r) ((size_t)(((r) >> 8) & 0xffff))     /* rotmibel_block_line: the phase line it is or belongs to */
+#define ROTMIBEL_LINE_END(r) ((size_t)(((r) >> 24) & 0xfffff))     /* rotmibel_block_line: where the line ends */
+#define ROTMIBEL_LINE_NEXT(r) ((size_t)((r) >> 44))                /* rotmibel_block_line: the place after it */
+#define ROTMIBEL_PLACE(r) ((size_t)((r) >> 24))                    /* rotmibel_write_header and _record, READ: the place after */
 
 /* Answers. */
 #define ROTMIBEL_READ 0      /* read or written */
@@ -44,6 +56,8 @@ extern "C" {
 #define ROTMIBEL_SHORT 11    /* the lent buffer or room is too short; column 0 */
 #define ROTMIBEL_FULL 12     /* a new pair while the catalogue names 512; column 0 */
 #define ROTMIBEL_DISORDER 13 /* the room is no catalogue in order; column 0 */
+#define ROTMIBEL_OUT_OF_PLACE 14 /* a block's first line is not the header, or a comment before any phase line; column 0 */
+#define ROTMIBEL_NOT_CLOSED 15   /* a comment that does not end in `)`; column 0 */
 
 /* Answers of the catalogue: what became of a line, and what a look-up found. */
 #define ROTMIBEL_STORED 20       /* E: nothing was held for its pair, the line is now */
@@ -56,11 +70,21 @@ extern "C" {
 #define ROTMIBEL_HELD 27         /* look-up: held, with its place from 0 */
 #define ROTMIBEL_NOT_HELD 28     /* look-up: not held */
 
-/* Sizes: a CUBE record of either kind, the longest CUBE line, a phase record, a written phase line, the room of a catalogue. */
+/* What a line of a block is. */
+#define ROTMIBEL_NO_LINE 0       /* no line there */
+#define ROTMIBEL_HEADER_LINE 40  /* the header */
+#define ROTMIBEL_PHASE_LINE_KIND 41 /* a phase line */
+#define ROTMIBEL_COMMENT_LINE 42 /* a comment */
+#define ROTMIBEL_CLOSING_LINE 43 /* the closing blank line */
+
+/* Sizes: a CUBE record of either kind, the longest CUBE line, a phase record, a written phase line, a line of a written block with
+   its newline, the longest block, the room of a catalogue. */
 #define ROTMIBEL_RECORD 268
 #define ROTMIBEL_LINE 80
 #define ROTMIBEL_PHASE_RECORD 231
 #define ROTMIBEL_PHASE_LINE 199
+#define ROTMIBEL_BLOCK_LINE 200
+#define ROTMIBEL_BLOCK 65536
 #define ROTMIBEL_ROOM 46596
 
 /* Kinds, a record's first byte. */
@@ -113,6 +137,49 @@ uint64_t rotmibel_read_phase(const uint8_t *line, size_t line_len, uint8_t *reco
 uint64_t rotmibel_write_phase(const uint8_t *record, size_t record_len, uint8_t *line, size_t line_len);
 
 /*
+ * A phase block is a header line, phase lines and comments, and a closing blank line or the end: at most ROTMIBEL_BLOCK bytes, each line
+ * ended by a newline or the end. A comment begins with a blank and `(`, has at most 1,024 bytes, and its last non-blank is `)`; it
+ * belongs to the phase line before it.
+ */
+
+/*
+ * Read a phase block: is it one, and how many phase lines and comments does it have?
+ *
+ * Returns READ with PHASE_COUNT, COMMENT_COUNT and BYTES_USED (the closing line and its newline included; without a closing line, the
+ * whole block). Or the refusal of the first refused line, with its COLUMN and its LINE_NUMBER: BAD_LENGTH at line 0 (over ROTMIBEL_BLOCK
+ * bytes); OUT_OF_PLACE at line 1 (the first line, trailing blanks removed, is not the header; an empty block); the refusals of
+ * rotmibel_read_phase but for SHORT; for a comment BAD_LENGTH, BARRED, NOT_CLOSED, OUT_OF_PLACE. Nothing after the closing line is
+ * looked at.
+ */
+uint64_t rotmibel_read_block(const uint8_t *block, size_t block_len);
+
+/*
+ * What is the line that starts at a place of a block? To walk a block, start at place 0, go on at LINE_NEXT, and stop at CLOSING_LINE or
+ * NO_LINE. The line's bytes are those from the place up to LINE_END; those of a phase line can be handed to rotmibel_read_phase.
+ *
+ * Returns LINE_KIND (ROTMIBEL_NO_LINE at the end, in a block over ROTMIBEL_BLOCK bytes, and at place 0 where that line is not the
+ * header), LINE_PHASE (of a phase line its number from 1, of a comment the number of the phase line it belongs to, else 0), LINE_END and
+ * LINE_NEXT. A line is told by its own bytes; whether it is accepted, rotmibel_read_block says. Nothing is changed.
+ */
+uint64_t rotmibel_block_line(const uint8_t *block, size_t block_len, size_t at);
+
+/*
+ * Write the header of a phase block and a newline, from place `at` of a buffer on.
+ *
+ * Answers SHORT where fewer than ROTMIBEL_BLOCK_LINE bytes are left from there; else READ, with PLACE the place after the newline (modulo
+ * 2^40). Other bytes stay.
+ */
+uint64_t rotmibel_write_header(uint8_t *out, size_t out_len, size_t at);
+
+/*
+ * Write a phase record as a line of a block and a newline, from place `at` of a buffer on: the place that the call before answered.
+ *
+ * Answers, looked for in this order: FORM at column 0 (no record); SHORT as above; then as rotmibel_write_phase; else READ, with PLACE.
+ * What a header call and record calls wrote reads back as a block with those records in that order and no comments.
+ */
+uint64_t rotmibel_write_record(const uint8_t *record, size_t record_len, uint8_t *out, size_t out_len, size_t at);
+
+/*
  * The catalogue lives in a room, ROTMIBEL_ROOM bytes that the caller keeps, saves and loads as he likes. A zeroed room is an empty
  * catalogue. Of a longer room only the first ROTMIBEL_ROOM bytes are looked at and changed. Two rooms that took the same acceptable
  * lines, in any order and with any repeats, are equal byte for byte (docs/PROMISES.md has the premises).
@@ -163,6 +230,31 @@ enum rotmibel_event_number {
     ROTMIBEL_LONGITUDE, ROTMIBEL_DEPTH, ROTMIBEL_MAGNITUDE, ROTMIBEL_STATIONS, ROTMIBEL_PHASES, ROTMIBEL_NEAREST, ROTMIBEL_RMS,
     ROTMIBEL_HORIZONTAL_ERROR, ROTMIBEL_VERTICAL_ERROR, ROTMIBEL_GAP, ROTMIBEL_MAGNITUDE_STATIONS, ROTMIBEL_MAGNITUDE_ERROR
 };
+
+/* Whether number `index` (from 0) of a phase record is there; and the number, 0 where it is missing. */
+static inline int rotmibel_phase_has(const uint8_t *record, unsigned index) { return record[1 + index] != 0; }
+static inline int64_t rotmibel_phase_number(const uint8_t *record, unsigned index) {
+    uint64_t n = 0;
+    for (unsigned i = 0; i < 8; i++) n = n << 8 | record[19 + 8 * index + i];
+    return n >> 63 ? -(int64_t)(~n) - 1 : (int64_t)n;
+}
+
+/* The numbers of a phase record, each scaled by the decimals of its column: seconds of the time by 1,000, distance and period by 100,
+   latitude and longitude by 10,000, the others by 10. */
+enum rotmibel_phase_number {
+    ROTMIBEL_P_DISTANCE, ROTMIBEL_P_EVENT_AZIMUTH, ROTMIBEL_P_HOUR, ROTMIBEL_P_MINUTE, ROTMIBEL_P_SECOND, ROTMIBEL_P_TIME_RESIDUAL,
+    ROTMIBEL_P_AZIMUTH, ROTMIBEL_P_AZIMUTH_RESIDUAL, ROTMIBEL_P_SLOWNESS, ROTMIBEL_P_SLOWNESS_RESIDUAL, ROTMIBEL_P_SIGNAL_TO_NOISE,
+    ROTMIBEL_P_AMPLITUDE, ROTMIBEL_P_PERIOD, ROTMIBEL_P_MAGNITUDE, ROTMIBEL_P_LATITUDE, ROTMIBEL_P_LONGITUDE, ROTMIBEL_P_ELEVATION,
+    ROTMIBEL_P_DEPTH
+};
+
+/* Where the text of a phase record stands; docs/RECORDS.md has the rest. */
+#define ROTMIBEL_P_STATION 163       /* 5 bytes */
+#define ROTMIBEL_P_PHASE 168         /* 8 bytes */
+#define ROTMIBEL_P_DEFINING 176      /* time, azimuth, slowness: 1 byte each */
+#define ROTMIBEL_P_PICK 179          /* type of pick, direction, onset: 1 byte each */
+#define ROTMIBEL_P_MAGNITUDE_TYPE 182 /* 5 bytes, then 1 byte `<`, `>` or blank */
+#define ROTMIBEL_P_ARRIVAL 188       /* 8 bytes and 3 of its extension */
 
 /* Where the text of an event's record stands: identifier 8 bytes, source 2, version 1, magnitude letter 1, method 1. */
 #define ROTMIBEL_EVENT_IDENTIFIER 172
