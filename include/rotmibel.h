@@ -71,11 +71,11 @@ extern "C" {
 #define ROTMIBEL_NOT_HELD 28     /* look-up: not held */
 
 /* What a line of a block is. */
-#define ROTMIBEL_NO_LINE 0       /* no line there */
-#define ROTMIBEL_HEADER_LINE 40  /* the header */
-#define ROTMIBEL_PHASE_LINE_KIND 41 /* a phase line */
-#define ROTMIBEL_COMMENT_LINE 42 /* a comment */
-#define ROTMIBEL_CLOSING_LINE 43 /* the closing blank line */
+#define ROTMIBEL_IS_NOTHING 0     /* no line there */
+#define ROTMIBEL_IS_HEADER 40   /* the header */
+#define ROTMIBEL_IS_PHASE 41   /* a phase line */
+#define ROTMIBEL_IS_COMMENT 42 /* a comment */
+#define ROTMIBEL_IS_CLOSING 43 /* the closing blank line */
 
 /* Sizes: a CUBE record of either kind, the longest CUBE line, a phase record, a written phase line, a line of a written block with
    its newline, the longest block, the room of a catalogue. */
@@ -154,10 +154,10 @@ uint64_t rotmibel_write_phase(const uint8_t *record, size_t record_len, uint8_t 
 uint64_t rotmibel_read_block(const uint8_t *block, size_t block_len);
 
 /*
- * What is the line that starts at a place of a block? To walk a block, start at place 0, go on at LINE_NEXT, and stop at CLOSING_LINE or
- * NO_LINE. The line's bytes are those from the place up to LINE_END; those of a phase line can be handed to rotmibel_read_phase.
+ * What is the line that starts at a place of a block? To walk a block, start at place 0, go on at LINE_NEXT, and stop at IS_CLOSING or
+ * IS_NOTHING. The line's bytes are those from the place up to LINE_END; those of a phase line can be handed to rotmibel_read_phase.
  *
- * Returns LINE_KIND (ROTMIBEL_NO_LINE at the end, in a block over ROTMIBEL_BLOCK bytes, and at place 0 where that line is not the
+ * Returns LINE_KIND (ROTMIBEL_IS_NOTHING at the end, in a block over ROTMIBEL_BLOCK bytes, and at place 0 where that line is not the
  * header), LINE_PHASE (of a phase line its number from 1, of a comment the number of the phase line it belongs to, else 0), LINE_END and
  * LINE_NEXT. A line is told by its own bytes; whether it is accepted, rotmibel_read_block says. Nothing is changed.
  */
