@@ -1,0 +1,161 @@
+//! The phase block, after document 01, "The block".
+use crate::number::*;
+use crate::phase;
+
+pub const OUT_OF_PLACE: u8 = 14;
+pub const NOT_CLOSED: u8 = 15;
+
+/// Document 003's words and the columns they begin in.
+const WORDS: [(usize, &str); 29] = [
+    (1, "Sta"),
+    (9, "Dist"),
+    (15, "EvAz"),
+    (20, "Phase"),
+    (33, "Time"),
+    (43, "TRes"),
+    (49, "Azim"),
+    (54, "AzRes"),
+    (62, "Slow"),
+    (69, "SRes"),
+    (74, "Def"),
+    (80, "SNR"),
+    (90, "Amp"),
+    (96, "Per"),
+    (100, "Qual"),
+    (105, "Magnitude"),
+    (118, "ArrID"),
+    (127, "Agy"),
+    (133, "Deploy"),
+    (142, "Ln"),
+    (145, "Auth"),
+    (151, "Rep"),
+    (157, "PCh"),
+    (161, "ACh"),
+    (165, "L"),
+    (169, "Lat"),
+    (179, "Lon"),
+    (187, "Elev"),
+    (195, "Depth"),
+];
+
+pub fn header() -> Vec<u8> {
+    let mut line = Vec::new();
+    for (column, word) in WORDS {
+        line.resize(column - 1, b' ');
+        line.extend_from_slice(word.as_bytes());
+    }
+    line
+}
+
+fn trimmed(line: &[u8]) -> &[u8] {
+    let end = line.iter().rposition(|&b| b != b' ').map_or(0, |i| i + 1);
+    &line[..end]
+}
+
+#[derive(PartialEq, Clone, Copy)]
+pub enum Kind {
+    Closing,
+    Comment,
+    Phase,
+}
+
+pub fn kind(line: &[u8]) -> Kind {
+    if trimmed(line).is_empty() {
+        Kind::Closing
+    } else if line.starts_with(b" (") {
+        Kind::Comment
+    } else {
+        Kind::Phase
+    }
+}
+
+fn judge_comment(line: &[u8], seen: bool) -> Result<(), Refusal> {
+    if line.len() > 1024 {
+        return Err((LENGTH, 0));
+    }
+    if let Some(i) = line.iter().position(|&b| !is_text(b)) {
+        return Err((BARRED, i + 1));
+    }
+    if trimmed(line).last() != Some(&b')') {
+        return Err((NOT_CLOSED, 0));
+    }
+    if seen {
+        Ok(())
+    } else {
+        Err((OUT_OF_PLACE, 0))
+    }
+}
+
+/// Phase lines, comments and bytes used; or number, column and line.
+pub fn read(block: &[u8]) -> Result<(usize, usize, usize), (u8, usize, usize)> {
+    if block.len() > 65536 {
+        return Err((LENGTH, 0, 0));
+    }
+    // lines keep their newline here, so that the bytes used add up
+    let mut lines = block.split_inclusive(|&b| b == b'\n');
+    let bare = |l: &'_ [u8]| l.strip_suffix(b"\n").unwrap_or(l).to_vec();
+    let first = lines.next().map(bare);
+    if first.as_deref().map(trimmed) != Some(&header()) {
+        return Err((OUT_OF_PLACE, 0, 1));
+    }
+    let mut used = block.split_inclusive(|&b| b == b'\n').next().unwrap().len();
+    let (mut phases, mut comments) = (0, 0);
+    for (i, whole) in lines.enumerate() {
+        let line = bare(whole);
+        used += whole.len();
+        match kind(&line) {
+            Kind::Closing => return Ok((phases, comments, used)),
+            Kind::Comment => {
+                judge_comment(&line, phases > 0).map_err(|(n, c)| (n, c, i + 2))?;
+                comments += 1;
+            }
+            Kind::Phase => {
+                phase::read_line(&line).map_err(|(n, c)| (n, c, i + 2))?;
+                phases += 1;
+            }
+        }
+    }
+    Ok((phases, comments, used))
+}
+
+/// What the line at a place is: kind (40 to 43, 0 for none), phase, end, place after.
+pub fn line_at(block: &[u8], at: usize) -> (u8, usize, usize, usize) {
+    if block.len() > 65536 || at >= block.len() {
+        return (0, 0, 0, 0);
+    }
+    let end = block[at..].iter().position(|&b| b == b'\n').map_or(block.len(), |i| at + i);
+    let next = if end < block.len() { end + 1 } else { end };
+    let line = &block[at..end];
+    if at == 0 {
+        return if trimmed(line) == header() { (40, 0, end, next) } else { (0, 0, 0, 0) };
+    }
+    let before = block[..at].split_inclusive(|&b| b == b'\n').skip(1);
+    let phases = before.filter(|l| kind(l.strip_suffix(b"\n").unwrap_or(l)) == Kind::Phase).count();
+    match kind(line) {
+        Kind::Closing => (43, 0, end, next),
+        Kind::Comment => (42, phases, end, next),
+        Kind::Phase => (41, phases + 1, end, next),
+    }
+}
+
+/// The bytes from a place on, one of them kept for the newline.
+fn room_from(at: usize, size: usize) -> usize {
+    size.saturating_sub(at).saturating_sub(1)
+}
+
+fn ended(mut line: Vec<u8>) -> Vec<u8> {
+    line.push(b'\n');
+    line
+}
+
+pub fn header_call(at: usize, size: usize) -> Result<Vec<u8>, Refusal> {
+    if room_from(at, size) < 199 {
+        Err((SHORT, 0))
+    } else {
+        Ok(ended(header()))
+    }
+}
+
+pub fn record_call(record: &[u8], at: usize, size: usize) -> Result<Vec<u8>, Refusal> {
+    phase::write_line(record, room_from(at, size)).map(ended)
+}
