@@ -344,6 +344,19 @@ fn damaged_rooms(r: &mut Rng, times: usize) -> Group {
     g
 }
 
+/// Rooms that break a rule between the sections, or nearly do.
+fn broken_rooms(r: &mut Rng, times: usize) -> Group {
+    let mut g = Group::new("versions and pairs across the sections");
+    for _ in 0..times {
+        let mut room = make::broken_room(r);
+        let got = g.met(calls::in_order(&room));
+        g.same(got, room::in_order(&room) as u64, &[&room[..400]]);
+        let line = make::event(r, 530);
+        compare_take(&mut g, &mut room, &line);
+    }
+    g
+}
+
 /// Two desks: the same settled lines in two orders, with repeats and refused lines among them.
 fn two_desks(r: &mut Rng, times: usize) -> Group {
     let mut g = Group::new("two desks against the set");
@@ -412,6 +425,7 @@ fn main() {
         taking(&mut r, 40_000 * times),
         near_full(&mut r, 8_000 * times),
         damaged_rooms(&mut r, 20_000 * times),
+        broken_rooms(&mut r, 600 * times),
         two_desks(&mut r, 1_500 * times),
     ];
     for g in &groups {

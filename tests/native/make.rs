@@ -352,3 +352,28 @@ pub fn a_room(r: &mut Rng, lines: usize, pairs: usize) -> Vec<u8> {
     }
     c.room()
 }
+
+/// A room that breaks one rule between its sections, or stands at its edge: a held line at or below its deletion, and 512 or 513 pairs.
+pub fn broken_room(r: &mut Rng) -> Vec<u8> {
+    let mut c = Catalogue::default();
+    if r.one_in(2) {
+        for _ in 0..1 + r.below(30) {
+            c.take(&event(r, 40));
+        }
+        let keys: Vec<_> = c.held.iter().map(|(p, l)| (*p, l[12])).collect();
+        let (p, v) = keys[r.below(keys.len())];
+        c.deleted.insert(p, (v as i16 + r.between(-1, 1) as i16).clamp(32, 126) as u8);
+        return c.room();
+    }
+    let held = r.below(512);
+    while c.held.len() < held {
+        c.take(&event(r, 520));
+    }
+    let more = 512 + r.below(2) - c.held.len();
+    for i in 0..more {
+        let mut p = *b"ZZ00000000";
+        p[6..].copy_from_slice(format!("{i:04}").as_bytes());
+        c.deleted.insert(p, b'1');
+    }
+    c.room()
+}
