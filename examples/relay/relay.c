@@ -1,0 +1,145 @@
+/*
+ * A relay: takes notices into a catalogue that lives in a file, looks events up in it, and reads phase blocks.
+ *
+ *   relay take ROOM          takes the lines of standard input into the catalogue in the file ROOM, which is made where there is none
+ *   relay find ROOM SS ID    looks up source SS and identifier ID, and prints what is held
+ *   relay block FILE         reads a phase block and prints its records
+ *
+ * Built with: cc relay.c $(pkg-config --cflags --libs rotmibel)
+ */
+#include <inttypes.h>
+#include <stdio.h>
+#include <stdlib.h>
+#include <string.h>
+
+#include <rotmibel.h>
+
+static uint8_t room[ROTMIBEL_ROOM];
+
+static int fail(const char *name) {
+    fprintf(stderr, "relay: ");
+    perror(name);
+    return 1;
+}
+
+/* The catalogue of a file; an empty one where there is no file. */
+static int load(const char *name) {
+    memset(room, 0, sizeof room);
+    FILE *f = fopen(name, "rb");
+    if (!f) return 0;
+    size_t n = fread(room, 1, sizeof room, f);
+    fclose(f);
+    if (n != sizeof room || ROTMIBEL_ANSWER(rotmibel_in_order(room, n)) != ROTMIBEL_READ) {
+        fprintf(stderr, "relay: %s holds no catalogue in order\n", name);
+        return 1;
+    }
+    return 0;
+}
+
+static int save(const char *name) {
+    FILE *f = fopen(name, "wb");
+    if (!f) return fail(name);
+    size_t n = fwrite(room, 1, sizeof room, f);
+    if (fclose(f) != 0 || n != sizeof room) return fail(name);
+    return 0;
+}
+
+static const char *outcome(unsigned answer) {
+    switch (answer) {
+    case ROTMIBEL_STORED: return "stored";
+    case ROTMIBEL_REPLACED: return "replaces the held line";
+    case ROTMIBEL_REPEATED: return "a repeat, held already";
+    case ROTMIBEL_OUTDATED: return "outdated, nothing changes";
+    case ROTMIBEL_REMOVED: return "removes the held line";
+    case ROTMIBEL_NOTED: return "deletion noted";
+    case ROTMIBEL_NOTHING_HELD: return "nothing held";
+    case ROTMIBEL_FULL: return "refused, 512 pairs are named";
+    default: return "refused";
+    }
+}
+
+static int take(const char *name) {
+    if (load(name)) return 1;
+    char line[1024];
+    for (unsigned long number = 1; fgets(line, sizeof line, stdin); number++) {
+        size_t n = strcspn(line, "\n");
+        uint64_t r = rotmibel_take(room, sizeof room, (const uint8_t *)line, n);
+        printf("%lu: %u %s", number, ROTMIBEL_ANSWER(r), outcome(ROTMIBEL_ANSWER(r)));
+        if (ROTMIBEL_COLUMN(r)) printf(", column %u", ROTMIBEL_COLUMN(r));
+        printf("\n");
+    }
+    if (ferror(stdin)) return fail("standard input");
+    return save(name);
+}
+
+/* Prints a held line, its magnitude, and the line as the library writes it from the record. */
+static int show(const uint8_t *held) {
+    uint8_t record[ROTMIBEL_RECORD], line[ROTMIBEL_LINE];
+    uint64_t r = rotmibel_read_line(held, ROTMIBEL_LINE, record, sizeof record);
+    if (ROTMIBEL_ANSWER(r) != ROTMIBEL_READ) return 1;
+    printf("held:    %.80s\n", (const char *)held);
+    if (rotmibel_has_number(record, ROTMIBEL_MAGNITUDE))
+        printf("magnitude %.1f\n", (double)rotmibel_number(record, ROTMIBEL_MAGNITUDE) / 10);
+    else
+        printf("no magnitude\n");
+    r = rotmibel_write_line(record, sizeof record, line, sizeof line);
+    if (ROTMIBEL_ANSWER(r) != ROTMIBEL_READ) return 1;
+    printf("written: %.*s\n", (int)ROTMIBEL_LENGTH(r), (const char *)line);
+    return 0;
+}
+
+static int find(const char *name, const char *source, const char *identifier) {
+    if (load(name)) return 1;
+    uint64_t r = rotmibel_look_up(room, sizeof room, (const uint8_t *)source, strlen(source), (const uint8_t *)identifier,
+                                  strlen(identifier));
+    switch (ROTMIBEL_ANSWER(r)) {
+    case ROTMIBEL_HELD: return show(room + 2 + 80 * ROTMIBEL_LENGTH(r));
+    case ROTMIBEL_NOT_HELD: printf("not held\n"); return 0;
+    default: printf("refused: %u\n", ROTMIBEL_ANSWER(r)); return 1;
+    }
+}
+
+static void show_phase(const uint8_t *line, size_t n) {
+    uint8_t record[ROTMIBEL_PHASE_RECORD];
+    if (ROTMIBEL_ANSWER(rotmibel_read_phase(line, n, record, sizeof record)) != ROTMIBEL_READ) return;
+    printf("%.5s %.8s", (const char *)record + ROTMIBEL_P_STATION, (const char *)record + ROTMIBEL_P_PHASE);
+    if (rotmibel_phase_has(record, ROTMIBEL_P_HOUR)) {
+        int64_t s = rotmibel_phase_number(record, ROTMIBEL_P_SECOND);
+        printf(" %02" PRId64 ":%02" PRId64 ":%02" PRId64 ".%03" PRId64, rotmibel_phase_number(record, ROTMIBEL_P_HOUR),
+               rotmibel_phase_number(record, ROTMIBEL_P_MINUTE), s / 1000, s % 1000);
+    }
+    if (rotmibel_phase_has(record, ROTMIBEL_P_DISTANCE))
+        printf(" at %.2f degrees", (double)rotmibel_phase_number(record, ROTMIBEL_P_DISTANCE) / 100);
+    printf("\n");
+}
+
+static int read_block(const char *name) {
+    static uint8_t block[ROTMIBEL_BLOCK + 1];
+    FILE *f = fopen(name, "rb");
+    if (!f) return fail(name);
+    size_t n = fread(block, 1, sizeof block, f);
+    fclose(f);
+    uint64_t r = rotmibel_read_block(block, n);
+    if (ROTMIBEL_ANSWER(r) != ROTMIBEL_READ) {
+        printf("refused: %u, column %u, line %zu\n", ROTMIBEL_ANSWER(r), ROTMIBEL_COLUMN(r), ROTMIBEL_LINE_NUMBER(r));
+        return 1;
+    }
+    printf("%zu phase lines, %zu comments, %zu bytes\n", ROTMIBEL_PHASE_COUNT(r), ROTMIBEL_COMMENT_COUNT(r), ROTMIBEL_BYTES_USED(r));
+    for (size_t at = 0;;) {
+        uint64_t line = rotmibel_block_line(block, n, at);
+        size_t size = ROTMIBEL_LINE_END(line) - at;
+        if (ROTMIBEL_LINE_KIND(line) == ROTMIBEL_IS_NOTHING || ROTMIBEL_LINE_KIND(line) == ROTMIBEL_IS_CLOSING) return 0;
+        if (ROTMIBEL_LINE_KIND(line) == ROTMIBEL_IS_PHASE) show_phase(block + at, size);
+        if (ROTMIBEL_LINE_KIND(line) == ROTMIBEL_IS_COMMENT)
+            printf("  of phase %zu:%.*s\n", ROTMIBEL_LINE_PHASE(line), (int)size, (const char *)block + at);
+        at = ROTMIBEL_LINE_NEXT(line);
+    }
+}
+
+int main(int argc, char **argv) {
+    if (argc == 3 && strcmp(argv[1], "take") == 0) return take(argv[2]);
+    if (argc == 5 && strcmp(argv[1], "find") == 0) return find(argv[2], argv[3], argv[4]);
+    if (argc == 3 && strcmp(argv[1], "block") == 0) return read_block(argv[2]);
+    fprintf(stderr, "usage: relay take ROOM | relay find ROOM SOURCE IDENTIFIER | relay block FILE\n");
+    return 2;
+}
