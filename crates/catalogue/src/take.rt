@@ -27,7 +27,7 @@ pub fn held(room: &[u8]) -> usize
 }
 
 // How many deletions there are, where n lines are held.
-fn deletions(room: &[u8], n: usize) -> usize
+pub fn deletions(room: &[u8], n: usize) -> usize
     requires { ⌜ Ordered (now room) × (n ≡ getD (now room) 0 0 * 256 + getD (now room) 1 0) × (n ≤ 512) ⌝ }
     ensures { λ r. ⌜ (r ≡ getD (now (room .entry)) (2 + 80 * n) 0 * 256 + getD (now (room .entry)) (2 + 80 * n + 1) 0) × (length (contents (now (room .entry)) .deletions) ≡ r) × (r ≤ 512) ⌝ }
 {

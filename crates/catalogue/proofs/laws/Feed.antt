@@ -25,6 +25,15 @@ use Rattle.catalogue.proofs.laws.Order.{empty-is, map-mem, order-free, 
 pub same-bytes-self : (x : List ℕ) → sameBytes x x ≡ true
 same-bytes-self x = same-self x
 
+-- the lines one by one
+pub feed-none : (room : List ℕ) → feed room [] ≡ room
+unfolding feed
+feed-none room = refl
+
+pub feed-more : (room l : List ℕ) (ls : List (List ℕ)) → feed room (l ∷ ls) ≡ feed (roomAfter room l) ls
+unfolding feed
+feed-more room l ls = refl
+
 -- an ordered catalogue's room takes a line as the catalogue does, and keeps what is past it
 pub room-step : (c : Catalogue) (z l : List ℕ) → Shaped c → good c ≡ true → roomAfter (encode c ++ z) l ≡ encode (step c l .after) ++ z
 unfolding roomAfter inOrder
@@ -60,7 +69,7 @@ sections-empty : sections empty ≡ 0 ∷ 0 ∷ 0 ∷ 0 ∷ []
 unfolding sections flat count
 sections-empty = refl
 
-zeroed : (z : List ℕ) → replicate 46596 0 ++ z ≡ encode empty ++ z
+pub zeroed : (z : List ℕ) → replicate 46596 0 ++ z ≡ encode empty ++ z
 unfolding encode
 zeroed z = ap (λ (r : List ℕ). r ++ z) (zeros-four 46596 (omega arith) ∙ ap (λ (q : List ℕ). q ++ replicate (46596 - length q) 0) (sym sections-empty))
 

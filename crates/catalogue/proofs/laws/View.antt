@@ -1,21 +1,21 @@
 -- A room in order is the layout of what it says, and what a call answers and leaves is what the catalogue's step says.
 use Rattle.formats.specs.Record.{sameBytes}
 use Prim.Native.Nat.{ℕ, _+_, _*_, _-_, _≤_}
-use mathlib.Core.Path.{_≡_, sym, _∙_, ap, ap₂, subst}
+use mathlib.Core.Path.{_≡_, refl, sym, _∙_, ap, ap₂, subst}
 use mathlib.Core.Bool.{true}
-use mathlib.Core.List.{List, _++_, append-assoc}
+use mathlib.Core.List.{List, [], _++_, append-nil, append-assoc}
 use native.Mathlib.Omega.{arith}
 use lib.ListN.{length, take, drop, getD, replicate, length-append, take-append-drop}
 use lib.Seq.{take-at, drop-at, drop-drop, getD-drop}
 use borrow.Author.Tests.{le-leb}
 use Rattle.formats.specs.Cube.{readLine}
 use Rattle.catalogue.specs.Line.{refusedAt}
-use Rattle.catalogue.specs.Catalogue.{Catalogue, step}
-use Rattle.catalogue.specs.Room.{number, rows, sections, encode, afterHeld, contents, good, inOrder, answerOf, columnOf, roomAfter}
+use Rattle.catalogue.specs.Catalogue.{Catalogue, empty, named, onlyHeld, step}
+use Rattle.catalogue.specs.Room.{number, rows, sections, encode, afterHeld, contents, ascends, every, good, inOrder, answerOf, columnOf, roomAfter}
 use Rattle.catalogue.proofs.laws.Encode.{Shaped, encode-length, contents-encode, contents-sections}
 use Rattle.catalogue.proofs.laws.Line.{and-both}
 use Rattle.catalogue.proofs.laws.Step.{same-bytes-true}
-use Rattle.catalogue.proofs.laws.Feed.{same-bytes-self}
+use Rattle.catalogue.proofs.laws.Feed.{same-bytes-self, zeroed}
 use Rattle.catalogue.proofs.laws.Back.{rows-length}
 use Rattle.catalogue.specs.Ordered.{Ordered}
 use Rattle.catalogue.proofs.laws.Keep.{Good, good-of, good-back, good-shaped, step-good}
@@ -142,3 +142,13 @@ module _ (c : Catalogue) (G : Good c) (z : List ℕ) where
 
   pub encoded-rest : drop 46596 (encode c ++ z) ≡ z
   encoded-rest = drop-at (encode c) z 46596 (encode-length c (good-shaped c G))
+
+-- a zeroed room is in order
+empty-good : good empty ≡ true
+unfolding good ascends every named onlyHeld
+empty-good = refl
+
+pub zeroed-ordered : Ordered (replicate 46596 0)
+zeroed-ordered =
+    let e : replicate 46596 0 ≡ encode empty ++ [] = sym (append-nil (replicate 46596 0)) ∙ zeroed [] in
+    subst Ordered (sym e) (encoded-ordered empty (good-of empty empty-good) [])

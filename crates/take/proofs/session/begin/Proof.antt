@@ -1,0 +1,25 @@
+use Rattle.take.specs.Text.{heading}
+use Rattle.take.specs.Session.{opened}
+use native.Mathlib.Omega.{arith}
+use mathlib.Core.Path.{refl}
+use Prim.Native.Nat.{ℕ, _-_}
+use mathlib.Core.List.{List}
+use borrow.Author.Needs.{needs}
+use Rattle.take.proofs.session.begin.Statement.{statement}
+use Rattle.take.proofs.session.begin.Tie as tie
+
+slice-aggregate-put-bytes : tie.Need-slice-aggregate-put-bytes
+slice-aggregate-put-bytes c = search needs
+
+put-bytes-requires : tie.Need-put-bytes-requires
+put-bytes-requires c κs = search needs
+
+same-length : tie.Need-same-length
+same-length c = search needs
+
+returns : tie.Need-returns
+unfolding heading opened
+returns c = (c .before .before .put-bytes .ensures .bytes, omega (arith, c .before .before .put-bytes .ensures .place), λ (room line : List ℕ). refl, refl, refl)
+
+pub begin-spec : {M : Type 1} → statement M
+begin-spec = tie.close (tie.spec slice-aggregate-put-bytes put-bytes-requires same-length returns)

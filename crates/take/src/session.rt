@@ -1,0 +1,141 @@
+// The lines of a chunk of the input, taken into the room as they come.
+use super::text::put_answer;
+use super::text::put_bytes;
+use catalogue::take::take_ordered;
+use formats::lines::line_end;
+ghost use mathlib.Core.Path.{_≡_};
+ghost use mathlib.Core.List.{List, _++_};
+ghost use Prim.Native.Nat.{ℕ, _+_, _-_, _≤_, _<_};
+ghost use lib.ListN.{length, take};
+ghost use Rattle.catalogue.specs.Ordered.{Ordered};
+ghost use Rattle.catalogue.specs.Room.{callOf, roomAfter};
+ghost use Rattle.take.specs.Text.{Put, heading, answerLine};
+ghost use Rattle.take.specs.Session.{cut, opened, closed, closedSaid};
+ghost use Rattle.take.specs.Progress.{sessionOf, Sound, Stepped};
+
+// A longer line answers as its first bytes up to here do.
+pub const LINE: usize = 1024;
+
+// How far the program is: the place in the chunk, the bytes kept of a line that is not ended, the lines taken, the bytes
+// gathered in the output, and whether reading or writing has failed.
+pub struct Progress {
+    pub from: usize,
+    pub len: usize,
+    pub number: u64,
+    pub at: usize,
+    pub failed: bool,
+}
+
+// The heading is put, and nothing has come of the input.
+pub fn begin(out: &mut [u8]) -> Progress
+    requires { ⌜ length (now out) ≡ 65536 ⌝ }
+    ensures { λ r. ⌜ (take (r .at) (now (out .exit)) ≡ heading) × (r .at ≤ 65536) × ((room line : List ℕ) → sessionOf room line r ≡ opened room) × (r .number ≡ 0) × (r .len ≡ 0) ⌝ }
+{
+    let at = put_bytes(out, 0, b"line answer column\n");
+    Progress {
+        from: 0,
+        len: 0,
+        number: 0,
+        at,
+        failed: false,
+    }
+}
+
+// Takes a line, and puts its answer.
+fn answer(room: &mut [u8], out: &mut [u8], at: usize, number: u64, line: &[u8]) -> usize
+    requires { ⌜ Ordered (now room) × (at + 63 ≤ length (now out)) ⌝ }
+    ensures { λ r. ⌜ (now (room .exit) ≡ roomAfter (now (room .entry)) (now (line .entry))) × Ordered (now (room .exit)) × Put (now (out .entry)) at (answerLine number (callOf (now (room .entry)) (now (line .entry)))) (now (out .exit)) r × (r ≤ at + 63) ⌝ }
+{
+    let call = take_ordered(room, line);
+    put_answer(out, at, number, call)
+}
+
+// Where the line from `from` up to `end` is cut.
+fn cut_end(from: usize, end: usize) -> usize
+    requires { ⌜ from ≤ end ⌝ }
+    ensures { λ r. ⌜ (from ≤ r) × (r ≤ end) × ((s : List ℕ) → take (r - from) s ≡ cut (take (end - from) s)) ⌝ }
+{
+    if end - from <= LINE {
+        return end;
+    }
+    from + LINE
+}
+
+// Adds a part of a line to what is kept of it, and cuts it.
+fn keep(line: &mut [u8], len: usize, part: &[u8]) -> usize
+    requires { ⌜ (length (now line) ≡ 1024) × (len ≤ 1024) ⌝ }
+    ensures { λ r. ⌜ (take r (now (line .exit)) ≡ cut (take len (now (line .entry)) ++ now (part .entry))) × (r ≤ 1024) ⌝ }
+{
+    let space = LINE - len;
+    if part.len() <= space {
+        return put_bytes(line, len, part);
+    }
+    put_bytes(line, len, &part[0..space])
+}
+
+// Takes the next line of the chunk, or keeps what has come of it where the chunk ends before it does.
+pub fn take_next(
+    room: &mut [u8],
+    line: &mut [u8],
+    out: &mut [u8],
+    chunk: &[u8],
+    p: Progress,
+) -> Progress
+    requires { ⌜ Sound (now room) (now line) (now out) p × (p .from < length (now chunk)) × (p .at ≤ 65473) × (p .number ≤ 9223372036854775808) ⌝ }
+    ensures { λ r. ⌜ Stepped (now (room .entry)) (now (line .entry)) (now (out .entry)) (now (chunk .entry)) p (now (room .exit)) (now (line .exit)) (now (out .exit)) r ⌝ }
+{
+    let from = p.from;
+    let len = p.len;
+    let end = line_end(chunk, from);
+    if end == chunk.len() {
+        let kept = keep(line, len, &chunk[from..end]);
+        return Progress {
+            from: end,
+            len: kept,
+            number: p.number,
+            at: p.at,
+            failed: p.failed,
+        };
+    }
+    let number = p.number + 1;
+    if len == 0 {
+        let stop = cut_end(from, end);
+        let at = answer(room, out, p.at, number, &chunk[from..stop]);
+        return Progress {
+            from: end + 1,
+            len: 0,
+            number,
+            at,
+            failed: p.failed,
+        };
+    }
+    let kept = keep(line, len, &chunk[from..end]);
+    let at = answer(room, out, p.at, number, &line[0..kept]);
+    Progress {
+        from: end + 1,
+        len: 0,
+        number,
+        at,
+        failed: p.failed,
+    }
+}
+
+// The end of the input: a line that has any bytes is ended.
+pub fn end_line(room: &mut [u8], line: &[u8], out: &mut [u8], p: Progress) -> Progress
+    requires { ⌜ Sound (now room) (now line) (now out) p × (p .at ≤ 65473) × (p .number ≤ 9223372036854775808) ⌝ }
+    ensures { λ r. ⌜ Sound (now (room .exit)) (now (line .entry)) (now (out .exit)) r × (sessionOf (now (room .exit)) (now (line .entry)) r ≡ closed (sessionOf (now (room .entry)) (now (line .entry)) p)) × (take (r .at) (now (out .exit)) ≡ take (p .at) (now (out .entry)) ++ closedSaid (sessionOf (now (room .entry)) (now (line .entry)) p)) ⌝ }
+{
+    let len = p.len;
+    if len == 0 {
+        return p;
+    }
+    let number = p.number + 1;
+    let at = answer(room, out, p.at, number, &line[0..len]);
+    Progress {
+        from: p.from,
+        len: 0,
+        number,
+        at,
+        failed: p.failed,
+    }
+}
