@@ -58,12 +58,22 @@ static const char *outcome(unsigned answer) {
     }
 }
 
+/* The next line of standard input, its first bytes where it is longer; 0 at the end. */
+static int next_line(uint8_t *line, size_t size, size_t *n) {
+    int c = getchar();
+    *n = 0;
+    if (c == EOF) return 0;
+    for (; c != EOF && c != '\n'; c = getchar())
+        if (*n < size) line[(*n)++] = (uint8_t)c;
+    return 1;
+}
+
 static int take(const char *name) {
     if (load(name)) return 1;
-    char line[1024];
-    for (unsigned long number = 1; fgets(line, sizeof line, stdin); number++) {
-        size_t n = strcspn(line, "\n");
-        uint64_t r = rotmibel_take(room, sizeof room, (const uint8_t *)line, n);
+    uint8_t line[1024];
+    size_t n;
+    for (unsigned long number = 1; next_line(line, sizeof line, &n); number++) {
+        uint64_t r = rotmibel_take(room, sizeof room, line, n);
         printf("%lu: %u %s", number, ROTMIBEL_ANSWER(r), outcome(ROTMIBEL_ANSWER(r)));
         if (ROTMIBEL_COLUMN(r)) printf(", column %u", ROTMIBEL_COLUMN(r));
         printf("\n");
