@@ -4,14 +4,20 @@ use mathlib.Core.Path.{_≡_}
 use mathlib.Core.List.{List, _++_}
 use lib.ListN.{length, take, drop}
 use Rattle.catalogue.specs.Ordered.{Ordered}
+use Rattle.catalogue.specs.Room.{callOf, roomAfter, contents}
 use Rattle.take.specs.declared.session.Progress.{Progress}
 use Rattle.take.specs.declared.stream.Input.{Input}
 use Rattle.take.specs.declared.stream.Input.the-variants.{Bytes, End, Failed}
-use Rattle.take.specs.Session.{Session, bytes, said}
+use Rattle.take.specs.Text.{Put, answerLine, catalogueText}
+use Rattle.take.specs.Session.{Session, bytes, said, closed, closedSaid}
 
 -- the session that the code is in: the line that is not ended is the first bytes of the array kept for it
 abbrev pub sessionOf : List ℕ → List ℕ → Progress → Session
 sessionOf room line p = record { room = room; line = take (p .len) line; number = p .number }
+
+-- 2^63: the lines are fewer, so their number never wraps
+abbrev pub mostLines : ℕ
+mostLines = 9223372036854775808
 
 -- what holds between the steps
 pub record Sound (room line out : List ℕ) (p : Progress) : Type 0 where
@@ -24,6 +30,13 @@ pub record Sound (room line out : List ℕ) (p : Progress) : Type 0 where
 -- the bytes of a chunk from one place up to another
 abbrev pub between : ℕ → ℕ → List ℕ → List ℕ
 between from to chunk = take (to - from) (drop from chunk)
+
+-- the line l is taken into the room, and its answer put, in at most 63 bytes
+pub record Answered (room out : List ℕ) (at number : ℕ) (l room' out' : List ℕ) (next : ℕ) : Type 0 where
+  pub taken : room' ≡ roomAfter room l
+  pub ordered : Ordered room'
+  pub put : Put out at (answerLine number (callOf room l)) out' next
+  pub short : next ≤ at + 63
 
 -- one line, or what has come of it: the session is the one after the bytes passed, and what they have said is put
 pub record Stepped (room line out chunk : List ℕ) (p : Progress) (room' line' out' : List ℕ) (q : Progress) : Type 0 where
@@ -43,6 +56,18 @@ pub record Taken (room line : List ℕ) (p : Progress) (input room' line' out' :
 pub record Passed (room line : List ℕ) (p : Progress) (room' line' out' : List ℕ) (q : Progress) : Type 0 where
   pub input : List ℕ
   pub taken : Taken room line p input room' line' out' q
+
+-- the end of the input: the session is closed, and what that has said is put
+pub record Closed (room line out : List ℕ) (p : Progress) (room' out' : List ℕ) (q : Progress) : Type 0 where
+  pub sound : Sound room' line out' q
+  pub session : sessionOf room' line q ≡ closed (sessionOf room line p)
+  pub text : take (q .at) out' ≡ take (p .at) out ++ closedSaid (sessionOf room line p)
+
+-- the session is closed, and the catalogue that it leaves stands at the start of the output
+pub record Finished (room line : List ℕ) (p : Progress) (room' out' : List ℕ) (n : ℕ) : Type 0 where
+  pub ordered : Ordered room'
+  pub room-is : room' ≡ closed (sessionOf room line p) .room
+  pub text : take n out' ≡ catalogueText (contents room')
 
 -- nothing but the gathered output and a failure has changed
 pub record Emptied (p q : Progress) : Type 0 where

@@ -52,7 +52,8 @@ closedSaid s = pick (eqb (length (s .line)) 0) [] (endedSaid s)
 unfoldable pub opened : List ℕ → Session
 opened room = record { room = room; line = []; number = 0 }
 
--- document 01: what is printed for an input, all of it
+-- all that document 01 has printed for an input. The law all-printed: an opened session that has taken the input, in whatever
+-- chunks, and is closed has said this between the heading and its catalogue
 unfoldable pub printed : List ℕ → List ℕ
 printed input =
     heading ++ (answers 0 (replicate 46596 0) (map cut (linesOf input))

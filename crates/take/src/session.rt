@@ -8,10 +8,9 @@ ghost use mathlib.Core.List.{List, _++_};
 ghost use Prim.Native.Nat.{ℕ, _+_, _-_, _≤_, _<_};
 ghost use lib.ListN.{length, take};
 ghost use Rattle.catalogue.specs.Ordered.{Ordered};
-ghost use Rattle.catalogue.specs.Room.{callOf, roomAfter};
-ghost use Rattle.take.specs.Text.{Put, heading, answerLine};
-ghost use Rattle.take.specs.Session.{cut, opened, closed, closedSaid};
-ghost use Rattle.take.specs.Progress.{sessionOf, Sound, Stepped};
+ghost use Rattle.take.specs.Text.{heading};
+ghost use Rattle.take.specs.Session.{cut, opened};
+ghost use Rattle.take.specs.Progress.{sessionOf, mostLines, Sound, between, Answered, Stepped, Closed};
 
 // A longer line answers as its first bytes up to here do.
 pub const LINE: usize = 1024;
@@ -44,7 +43,7 @@ pub fn begin(out: &mut [u8]) -> Progress
 // Takes a line, and puts its answer.
 fn answer(room: &mut [u8], out: &mut [u8], at: usize, number: u64, line: &[u8]) -> usize
     requires { ⌜ Ordered (now room) × (at + 63 ≤ length (now out)) ⌝ }
-    ensures { λ r. ⌜ (now (room .exit) ≡ roomAfter (now (room .entry)) (now (line .entry))) × Ordered (now (room .exit)) × Put (now (out .entry)) at (answerLine number (callOf (now (room .entry)) (now (line .entry)))) (now (out .exit)) r × (r ≤ at + 63) ⌝ }
+    ensures { λ r. ⌜ Answered (now (room .entry)) (now (out .entry)) at number (now (line .entry)) (now (room .exit)) (now (out .exit)) r ⌝ }
 {
     let call = take_ordered(room, line);
     put_answer(out, at, number, call)
@@ -73,6 +72,29 @@ fn keep(line: &mut [u8], len: usize, part: &[u8]) -> usize
     put_bytes(line, len, &part[0..space])
 }
 
+// Takes the line whose newline stands at `end`: what is kept of it, and the chunk's bytes up to there.
+fn answer_ended(
+    room: &mut [u8],
+    line: &mut [u8],
+    out: &mut [u8],
+    chunk: &[u8],
+    p: Progress,
+    end: usize,
+) -> usize
+    requires { ⌜ Sound (now room) (now line) (now out) p × (p .from ≤ end) × (end ≤ length (now chunk)) × (p .at + 63 ≤ 65536) × (p .number ≤ mostLines) ⌝ }
+    ensures { λ r. ⌜ Answered (now (room .entry)) (now (out .entry)) (p .at) (p .number + 1) (cut (take (p .len) (now (line .entry)) ++ between (p .from) end (now (chunk .entry)))) (now (room .exit)) (now (out .exit)) r ⌝ }
+{
+    let from = p.from;
+    let len = p.len;
+    let number = p.number + 1;
+    if len == 0 {
+        let stop = cut_end(from, end);
+        return answer(room, out, p.at, number, &chunk[from..stop]);
+    }
+    let kept = keep(line, len, &chunk[from..end]);
+    answer(room, out, p.at, number, &line[0..kept])
+}
+
 // Takes the next line of the chunk, or keeps what has come of it where the chunk ends before it does.
 pub fn take_next(
     room: &mut [u8],
@@ -81,40 +103,26 @@ pub fn take_next(
     chunk: &[u8],
     p: Progress,
 ) -> Progress
-    requires { ⌜ Sound (now room) (now line) (now out) p × (p .from < length (now chunk)) × (p .at ≤ 65473) × (p .number ≤ 9223372036854775808) ⌝ }
+    requires { ⌜ Sound (now room) (now line) (now out) p × (p .from < length (now chunk)) × (p .at + 63 ≤ 65536) × (p .number ≤ mostLines) ⌝ }
     ensures { λ r. ⌜ Stepped (now (room .entry)) (now (line .entry)) (now (out .entry)) (now (chunk .entry)) p (now (room .exit)) (now (line .exit)) (now (out .exit)) r ⌝ }
 {
     let from = p.from;
-    let len = p.len;
     let end = line_end(chunk, from);
     if end == chunk.len() {
-        let kept = keep(line, len, &chunk[from..end]);
+        let len = keep(line, p.len, &chunk[from..end]);
         return Progress {
             from: end,
-            len: kept,
+            len,
             number: p.number,
             at: p.at,
             failed: p.failed,
         };
     }
-    let number = p.number + 1;
-    if len == 0 {
-        let stop = cut_end(from, end);
-        let at = answer(room, out, p.at, number, &chunk[from..stop]);
-        return Progress {
-            from: end + 1,
-            len: 0,
-            number,
-            at,
-            failed: p.failed,
-        };
-    }
-    let kept = keep(line, len, &chunk[from..end]);
-    let at = answer(room, out, p.at, number, &line[0..kept]);
+    let at = answer_ended(room, line, out, chunk, p, end);
     Progress {
         from: end + 1,
         len: 0,
-        number,
+        number: p.number + 1,
         at,
         failed: p.failed,
     }
@@ -122,8 +130,8 @@ pub fn take_next(
 
 // The end of the input: a line that has any bytes is ended.
 pub fn end_line(room: &mut [u8], line: &[u8], out: &mut [u8], p: Progress) -> Progress
-    requires { ⌜ Sound (now room) (now line) (now out) p × (p .at ≤ 65473) × (p .number ≤ 9223372036854775808) ⌝ }
-    ensures { λ r. ⌜ Sound (now (room .exit)) (now (line .entry)) (now (out .exit)) r × (sessionOf (now (room .exit)) (now (line .entry)) r ≡ closed (sessionOf (now (room .entry)) (now (line .entry)) p)) × (take (r .at) (now (out .exit)) ≡ take (p .at) (now (out .entry)) ++ closedSaid (sessionOf (now (room .entry)) (now (line .entry)) p)) ⌝ }
+    requires { ⌜ Sound (now room) (now line) (now out) p × (p .at + 63 ≤ 65536) × (p .number ≤ mostLines) ⌝ }
+    ensures { λ r. ⌜ Closed (now (room .entry)) (now (line .entry)) (now (out .entry)) p (now (room .exit)) (now (out .exit)) r ⌝ }
 {
     let len = p.len;
     if len == 0 {

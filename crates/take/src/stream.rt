@@ -11,12 +11,12 @@ ghost use mathlib.Core.Path.{_≡_};
 ghost use Prim.Native.Nat.{_+_, _≤_};
 ghost use lib.ListN.{length, take, drop};
 ghost use Rattle.catalogue.specs.Ordered.{Ordered};
-ghost use Rattle.take.specs.Progress.{Sound, Emptied, Taken, Passed, broughtBy};
+ghost use Rattle.take.specs.Progress.{mostLines, Sound, Taken, Passed, Finished, Emptied, broughtBy};
 
-// Gathered bytes past which no whole answer is sure to fit.
+// The most gathered bytes behind which any answer, of at most 63 bytes, still fits.
 const FULL: usize = 65473;
 
-// Nothing says that the input ends, and a loop has to: the reads are counted down, from more than any run makes.
+// Nothing says that the input ends, and a loop has to: the reads are counted down from 2^47, more than any run makes.
 const READS: u64 = 140737488355328;
 
 // The same progress with nothing gathered.
@@ -51,7 +51,7 @@ fn flush(out: &[u8], p: Progress) -> Progress
 // Writes what is gathered where a whole answer may not fit behind it.
 fn make_space(out: &[u8], p: Progress) -> Progress
     requires { ⌜ p .at ≤ length (now out) ⌝ }
-    ensures { λ r. ⌜ Emptied p r × (r .at ≤ 65473) ⌝ }
+    ensures { λ r. ⌜ Emptied p r × (r .at + 63 ≤ 65536) ⌝ }
 {
     if p.at <= FULL {
         return p;
@@ -67,7 +67,7 @@ fn take_chunk(
     chunk: &[u8],
     first: Progress,
 ) -> Progress
-    requires { ⌜ Sound (now room) (now line) (now out) first × (first .from ≤ length (now chunk)) × (first .number + length (now chunk) ≤ 9223372036854775808) ⌝ }
+    requires { ⌜ Sound (now room) (now line) (now out) first × (first .from ≤ length (now chunk)) × (first .number + length (now chunk) ≤ mostLines) ⌝ }
     ensures { λ r. ⌜ Taken (now (room .entry)) (now (line .entry)) first (drop (first .from) (now (chunk .entry))) (now (room .exit)) (now (line .exit)) (now (out .exit)) r × (r .number ≤ first .number + length (now (chunk .entry))) ⌝ }
 {
     let mut p = first;
@@ -108,6 +108,7 @@ fn stop(out: &[u8], p: Progress) -> Progress
     emptied(q, true)
 }
 
+// More reads than are counted.
 fn too_long(out: &[u8], p: Progress) -> Progress
     requires { ⌜ p .at ≤ length (now out) ⌝ }
     ensures { λ r. ⌜ Emptied p r × (r .at ≡ 0) ⌝ }
@@ -130,7 +131,7 @@ fn read_next(
     out: &mut [u8],
     p: Progress,
 ) -> Turn
-    requires { ⌜ Sound (now room) (now line) (now out) p × (length (now chunk) ≡ 65536) × (p .number + 65536 ≤ 9223372036854775808) ⌝ }
+    requires { ⌜ Sound (now room) (now line) (now out) p × (length (now chunk) ≡ 65536) × (p .number + 65536 ≤ mostLines) ⌝ }
     ensures { λ r. ⌜ Taken (now (room .entry)) (now (line .entry)) p (take (r .count) (now (chunk .exit))) (now (room .exit)) (now (line .exit)) (now (out .exit)) (r .progress) × (r .progress .number ≤ p .number + 65536) ⌝ }
 {
     match read_some(chunk) {
@@ -165,7 +166,7 @@ fn read_all(
     first: Progress,
 ) -> Progress
     requires { ⌜ Sound (now room) (now line) (now out) first × (length (now chunk) ≡ 65536) × (first .number ≡ 0) ⌝ }
-    ensures { λ r. ⌜ Passed (now (room .entry)) (now (line .entry)) first (now (room .exit)) (now (line .exit)) (now (out .exit)) r × (r .number ≤ 9223372036854775808) ⌝ }
+    ensures { λ r. ⌜ Passed (now (room .entry)) (now (line .entry)) first (now (room .exit)) (now (line .exit)) (now (out .exit)) r × (r .number ≤ mostLines) ⌝ }
 {
     let mut p = first;
     let mut reads = READS;
@@ -183,13 +184,11 @@ fn read_all(
     too_long(out, p)
 }
 
-// Ends the last line, and prints the catalogue.
-fn finish(room: &mut [u8], line: &[u8], out: &mut [u8], p: Progress)
-    requires { ⌜ Sound (now room) (now line) (now out) p × (p .number ≤ 9223372036854775808) ⌝ }
+// Ends the last line, and prints the catalogue; answers how many bytes that is.
+fn finish(room: &mut [u8], line: &[u8], out: &mut [u8], p: Progress) -> usize
+    requires { ⌜ Sound (now room) (now line) (now out) p × (p .number ≤ mostLines) ⌝ }
+    ensures { λ r. ⌜ Finished (now (room .entry)) (now (line .entry)) p (now (room .exit)) (now (out .exit)) r ⌝ }
 {
-    if p.failed {
-        return;
-    }
     let q = end_line(room, line, out, make_space(out, p));
     let r = flush(out, q);
     let at = put_catalogue(out, room);
@@ -203,13 +202,19 @@ fn finish(room: &mut [u8], line: &[u8], out: &mut [u8], p: Progress)
             failed: r.failed,
         },
     );
+    at
 }
 
-// The whole run: the heading, each line's answer, the catalogue.
+// The whole run: the heading, each line's answer, the catalogue. Where reading or writing fails, standard error says so, and the
+// catalogue is not printed.
 pub fn run(room: &mut [u8], line: &mut [u8], chunk: &mut [u8], out: &mut [u8])
     requires { ⌜ Ordered (now room) × (length (now line) ≡ 1024) × (length (now chunk) ≡ 65536) × (length (now out) ≡ 65536) ⌝ }
+    ensures { λ _. ⌜ Ordered (now (room .exit)) ⌝ }
 {
     let first = begin(out);
     let last = read_all(room, line, chunk, out, first);
+    if last.failed {
+        return;
+    }
     finish(room, line, out, last);
 }

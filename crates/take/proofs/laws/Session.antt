@@ -33,11 +33,11 @@ pub cut-short : (l : List ℕ) → length l ≤ 1024 → cut l ≡ l
 unfolding cut
 cut-short l h = take-all 1024 l h
 
-pub cut-length : (l : List ℕ) → length (cut l) ≤ 1024
+cut-length : (l : List ℕ) → length (cut l) ≤ 1024
 unfolding cut
 cut-length l = omega (arith, length-take 1024 l)
 
-pub cut-cut : (x y : List ℕ) → cut (cut x ++ y) ≡ cut (x ++ y)
+cut-cut : (x y : List ℕ) → cut (cut x ++ y) ≡ cut (x ++ y)
 unfolding cut
 cut-cut x y =
     elim (le? (length x) 1024) [
@@ -56,7 +56,7 @@ cut-part from n s h = let e : from + 1024 - from ≡ 1024 = omega arith in ap (�
 
 -- ---- a line that grows
 
-pub grown-none : (s : Session) → length (s .line) ≤ 1024 → grown s [] ≡ s
+grown-none : (s : Session) → length (s .line) ≤ 1024 → grown s [] ≡ s
 unfolding grown
 grown-none s h =
     ap (λ (l : List ℕ). record { room = s .room; line = l; number = s .number }) (ap cut (append-nil (s .line)) ∙ cut-short (s .line) h)

@@ -1,17 +1,16 @@
 -- Laws of the code's steps: a line kept or answered, a chunk, and the input so far.
 use Prim.Native.Nat.{ℕ, _+_, _-_, _≤_, _<_}
-use mathlib.Core.Path.{_≡_, refl, sym, _∙_, ap, ap₂}
+use mathlib.Core.Path.{_≡_, refl, sym, _∙_, ap, ap₂, subst}
 use mathlib.Core.List.{List, [], _++_, append-nil}
 use native.Mathlib.Omega.{arith}
 use lib.ListN.{length, take, drop, length-append, length-take, take-append-drop, drop-of-length-le}
 use lib.Seq.{take-append-add, length-take-le, drop-drop}
 use Rattle.formats.specs.Lines.{lineEnd}
-use Rattle.catalogue.specs.Ordered.{Ordered}
 use Rattle.catalogue.specs.Room.{callOf, roomAfter}
 use Rattle.take.specs.declared.session.Progress.{Progress}
 use Rattle.take.specs.Text.{Put, answerLine}
-use Rattle.take.specs.Session.{cut, Session, ended, endedSaid, grown, bytes, closed, closedSaid}
-use Rattle.take.specs.Progress.{sessionOf, Sound, between, Stepped, Taken, Passed, Emptied}
+use Rattle.take.specs.Session.{cut, Session, ended, endedSaid, grown, bytes}
+use Rattle.take.specs.Progress.{sessionOf, Sound, between, Answered, Stepped, Taken, Passed, Closed, Emptied}
 use Rattle.take.proofs.laws.Session.{bytes-append, cut-short, Grown, line-grown, Ended, line-ended, closed-none, closed-some}
 
 -- ---- a part of a line, kept behind what there is of it
@@ -61,28 +60,29 @@ module _ (room line out chunk : List ℕ) (p : Progress) (sound : Sound room lin
         counted = omega arith;
       }
 
-  pub answered : {room' line' out' l : List ℕ} {at : ℕ} → (end ≡ length chunk → ⊥) → p .at ≤ 65473
-      → l ≡ cut (take (p .len) line ++ take (end - p .from) (drop (p .from) chunk))
-      → length line' ≡ length line → length out' ≡ length out
-      → room' ≡ roomAfter room l → Ordered room' → Put out (p .at) (answerLine (p .number + 1) (callOf room l)) out' at → at ≤ p .at + 63
+  pub answered : {room' line' out' : List ℕ} {at : ℕ} → (end ≡ length chunk → ⊥) → p .at + 63 ≤ 65536 → length line' ≡ length line → length out' ≡ length out
+      → Answered room out (p .at) (p .number + 1) (cut (take (p .len) line ++ between (p .from) end chunk)) room' out' at
       → Stepped room line out chunk p room' line' out' (record { from = end + 1; len = 0; number = p .number + 1; at = at; failed = p .failed })
   unfolding grown ended endedSaid
-  answered {room'} {line'} {out'} {l} {at} more space e size osize r o put small =
+  answered {room'} {line'} {out'} {at} more space size osize a =
       let g : Ended chunk (sessionOf room line p) (p .from) end = line-ended chunk (sessionOf room line p) (p .from) end (session-fits p sound) onward (omega arith) is in
       record {
         sound = record {
-          ordered = o;
+          ordered = a .ordered;
           line-size = size ∙ sound .line-size;
           line-fits = omega arith;
           out-size = osize ∙ sound .out-size;
-          out-fits = omega arith;
+          out-fits = omega (arith, a .short);
         };
         onward = omega arith;
         within = omega arith;
-        session = ap (λ (x : List ℕ). record { room = x; line = []; number = p .number + 1 }) (r ∙ ap (roomAfter room) e) ∙ sym (g .session);
-        text = put .bytes ∙ ap (λ (x : List ℕ). take (p .at) out ++ x) (ap (λ (y : List ℕ). answerLine (p .number + 1) (callOf room y)) e ∙ sym (g .answer));
+        session = ap (λ (x : List ℕ). record { room = x; line = []; number = p .number + 1 }) (a .taken) ∙ sym (g .session);
+        text = a .put .bytes ∙ ap (λ (x : List ℕ). take (p .at) out ++ x) (sym (g .answer));
         counted = omega arith;
       }
+
+pub answered-as : {room out room' out' l m : List ℕ} {at number next : ℕ} → l ≡ m → Answered room out at number l room' out' next → Answered room out at number m room' out' next
+answered-as {room} {out} {room'} {out'} {l} {m} {at} {number} {next} e a = subst (λ (x : List ℕ). Answered room out at number x room' out' next) e a
 
 -- a line of which nothing was kept
 pub kept-none : (line part : List ℕ) (len : ℕ) → len ≡ 0 → cut part ≡ cut (take len line ++ part)
@@ -150,20 +150,31 @@ passed-more {a} {b} {o = o} input s t =
 -- ---- the end of the input
 
 module _ (room line out : List ℕ) (p : Progress) (sound : Sound room line out p) where
-  pub end-none : p .len ≡ 0 → (sessionOf room line p ≡ closed (sessionOf room line p)) × (take (p .at) out ≡ take (p .at) out ++ closedSaid (sessionOf room line p))
+  pub end-none : p .len ≡ 0 → Closed room line out p room out p
   end-none h =
       let c = closed-none (sessionOf room line p) (omega (arith, length-take (p .len) line)) in
-      (sym (c .0), sym (append-nil (take (p .at) out)) ∙ ap (λ (x : List ℕ). take (p .at) out ++ x) (sym (c .1)))
+      record {
+        sound = sound;
+        session = sym (c .0);
+        text = sym (append-nil (take (p .at) out)) ∙ ap (λ (x : List ℕ). take (p .at) out ++ x) (sym (c .1));
+      }
 
-  pub end-some : {room' out' : List ℕ} {at : ℕ} → (p .len ≡ 0 → ⊥) → room' ≡ roomAfter room (take (p .len - 0) line)
-      → Put out (p .at) (answerLine (p .number + 1) (callOf room (take (p .len - 0) line))) out' at
-      → (_≡_ {A = Session} (record { room = room'; line = []; number = p .number + 1 }) (closed (sessionOf room line p)))
-      × (take at out' ≡ take (p .at) out ++ closedSaid (sessionOf room line p))
+  pub end-some : {room' out' : List ℕ} {at : ℕ} → (p .len ≡ 0 → ⊥) → p .at + 63 ≤ 65536 → length out' ≡ length out
+      → Answered room out (p .at) (p .number + 1) (take (p .len - 0) line) room' out' at
+      → Closed room line out p room' out' (record { from = p .from; len = 0; number = p .number + 1; at = at; failed = p .failed })
   unfolding ended endedSaid
-  end-some {room'} {out'} {at} h r put =
+  end-some {room'} {out'} {at} h space osize a =
       let e : p .len - 0 ≡ p .len = omega arith in
       let n : length (take (p .len) line) ≡ p .len = length-take-le (p .len) line (omega (arith, sound .line-size, sound .line-fits)) in
-      let c = closed-some (sessionOf room line p) (λ (z : length (take (p .len) line) ≡ 0). h (sym n ∙ z)) in (
-        ap (λ (x : List ℕ). record { room = x; line = []; number = p .number + 1 }) (r ∙ ap (λ (k : ℕ). roomAfter room (take k line)) e) ∙ sym (c .0),
-        put .bytes ∙ ap (λ (x : List ℕ). take (p .at) out ++ x) (ap (λ (k : ℕ). answerLine (p .number + 1) (callOf room (take k line))) e ∙ sym (c .1)),
-      )
+      let c = closed-some (sessionOf room line p) (λ (z : length (take (p .len) line) ≡ 0). h (sym n ∙ z)) in
+      record {
+        sound = record {
+          ordered = a .ordered;
+          line-size = sound .line-size;
+          line-fits = omega arith;
+          out-size = osize ∙ sound .out-size;
+          out-fits = omega (arith, a .short);
+        };
+        session = ap (λ (x : List ℕ). record { room = x; line = []; number = p .number + 1 }) (a .taken ∙ ap (λ (k : ℕ). roomAfter room (take k line)) e) ∙ sym (c .0);
+        text = a .put .bytes ∙ ap (λ (x : List ℕ). take (p .at) out ++ x) (ap (λ (k : ℕ). answerLine (p .number + 1) (callOf room (take k line))) e ∙ sym (c .1));
+      }

@@ -45,7 +45,16 @@ put-all a s at h e =
       bytes = ap (take (at + length s)) e ∙ take-paste a at s (length s) h (omega arith) ∙ ap (λ (x : List ℕ). take at a ++ x) (take-length s);
     }
 
--- ---- digits
+-- ---- digits: `0`, and the largest number of 64 bits, `18446744073709551615`
+
+decimal-zero : decimal 0 ≡ 48 ∷ []
+unfolding decimal digits
+decimal-zero = refl
+
+decimal-largest : decimal 18446744073709551615
+    ≡ 49 ∷ 56 ∷ 52 ∷ 52 ∷ 54 ∷ 55 ∷ 52 ∷ 52 ∷ 48 ∷ 55 ∷ 51 ∷ 55 ∷ 48 ∷ 57 ∷ 53 ∷ 53 ∷ 49 ∷ 54 ∷ 49 ∷ 53 ∷ []
+unfolding decimal digits
+decimal-largest = refl
 
 pub digits-one : (k n : ℕ) → 1 ≤ k → n < 10 → digits k n ≡ (48 + n) ∷ []
 unfolding digits

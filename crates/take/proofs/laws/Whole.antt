@@ -36,9 +36,6 @@ module _ (t : List ℕ) where
       }
 
   module _ (at : ℕ) (room : List ℕ) (number : ℕ) (inside : at < length t) where
-    end : ℕ
-    end = lineEnd t at
-
     line : List ℕ
     line = take (lineEnd t at - at) (drop at t)
 

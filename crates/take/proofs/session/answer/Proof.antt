@@ -22,7 +22,12 @@ same-length-2 c = search needs
 returns : tie.Need-returns
 returns c =
     let t = c .before .before .before .before .before .before .take-ordered in
-    (t .ensures .1, t .ensures .2, put-as (ap (answerLine (c .before .before .before .before .before .before .before .before .before .before .before .args .number)) (t .ensures .0)) (c .before .before .put-answer .ensures .0), c .before .before .put-answer .ensures .1)
+    record {
+      taken = t .ensures .1;
+      ordered = t .ensures .2;
+      put = put-as (ap (answerLine (c .before .before .before .before .before .before .before .before .before .before .before .args .number)) (t .ensures .0)) (c .before .before .put-answer .ensures .0);
+      short = c .before .before .put-answer .ensures .1;
+    }
 
 pub answer-spec : {M : Type 1} → statement M
 answer-spec =

@@ -9,7 +9,6 @@ use mathlib.Core.List.{[]}
 use borrow.Author.Needs.{needs}
 use Rattle.take.proofs.stream.read_all.Statement.{statement}
 use Rattle.take.proofs.stream.read_all.Tie as tie
-use Rattle.take.proofs.stream.read_all.Reads as reads
 
 abbrev Inv-loop : tie.InvT-loop
 Inv-loop room₀ line₀ chunk₀ out₀ p₀ reads₀ room line chunk out p reads =

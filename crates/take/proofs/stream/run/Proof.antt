@@ -24,9 +24,6 @@ read-all-requires c κs =
       b .ensures .3,
     )
 
-finish-requires : tie.Need-finish-requires
-finish-requires c κs = (c .before .before .before .before .before .before .before .before .before .before .before .read-all .ensures .0 .taken .sound, c .before .before .before .before .before .before .before .before .before .before .before .read-all .ensures .1)
-
 same-length : tie.Need-same-length
 same-length c = search needs
 
@@ -40,7 +37,25 @@ same-length-4 : tie.Need-same-length-4
 same-length-4 c = search needs
 
 returns : tie.Need-returns
-returns c = search needs
+returns c = c .before .before .before .before .before .before .before .before .before .read-all .ensures .0 .taken .sound .ordered
+
+finish-requires : tie.Need-finish-requires
+finish-requires c κs = (c .before .before .before .before .before .before .before .before .before .before .before .before .read-all .ensures .0 .taken .sound, c .before .before .before .before .before .before .before .before .before .before .before .before .read-all .ensures .1)
+
+same-length-5 : tie.Need-same-length-5
+same-length-5 c = search needs
+
+same-length-6 : tie.Need-same-length-6
+same-length-6 c = search needs
+
+same-length-7 : tie.Need-same-length-7
+same-length-7 c = search needs
+
+same-length-8 : tie.Need-same-length-8
+same-length-8 c = search needs
+
+returns-2 : tie.Need-returns-2
+returns-2 c = c .before .before .before .before .finish .ensures .ordered
 
 pub run-spec : {M : Type 1} → statement M
 run-spec =
@@ -48,9 +63,14 @@ run-spec =
     (tie.spec
     begin-requires
     read-all-requires
-    finish-requires
     same-length
     same-length-2
     same-length-3
     same-length-4
-    returns)
+    returns
+    finish-requires
+    same-length-5
+    same-length-6
+    same-length-7
+    same-length-8
+    returns-2)
