@@ -74,7 +74,7 @@ fn compare_replaced(c: Counts, block: [u8; 4055], line: usize, bytes: &[u8]) -> 
 {
     let start = line_start(line);
     let next = line_start(line + 1);
-    let mut out = [b' '; 8192];
+    let mut out = [b'\n'; 8192];
     let end = add(&mut out, 0, &block[0..start]);
     let end = add(&mut out, end, bytes);
     let end = add(&mut out, end, b"\n");
@@ -110,19 +110,15 @@ fn short_lines(start: Counts, block: [u8; 4055]) -> Counts {
     c
 }
 
-// A line with blanks to 199, 200 and 210 bytes.
-fn long_lines(start: Counts, block: [u8; 4055], line: [u8; 210]) -> Counts {
-    let c = replaced(start, block, &line[0..199]);
-    let c = replaced(c, block, &line[0..200]);
-    replaced(c, block, &line)
-}
-
-// Each line replaced by lines of every kind.
+// Each line replaced by lines of every kind: the short ones, the header, and a phase line of 199, 200 and 210 bytes.
 pub fn lines_replaced(start: Counts, block: [u8; 4055]) -> Counts {
+    let header = super::example::header_line();
+    let full = super::example::full_line();
     let c = short_lines(start, block);
-    let c = long_lines(c, block, [b' '; 210]);
-    let c = long_lines(c, block, super::example::header_line());
-    long_lines(c, block, super::example::full_line())
+    let c = replaced(c, block, &header);
+    let c = replaced(c, block, &full[0..199]);
+    let c = replaced(c, block, &full[0..200]);
+    replaced(c, block, &full)
 }
 
 // Each line replaced by the first `len` bytes.
@@ -158,29 +154,28 @@ pub fn long_comments(start: Counts, block: [u8; 4055]) -> Counts {
     comments_ended(c, block, 127, b'x')
 }
 
-// The block's first bytes, newlines after them.
-fn headed(block: &[u8; 4055], first: usize) -> [u8; 65600]
+// The block's byte at a place, or past its first bytes the pattern's.
+fn byte_at(block: &[u8; 4055], first: usize, pattern: &[u8], at: usize) -> u8
+    requires { ⌜ first ≤ 4055 ⌝ }
+{
+    if at < first {
+        return block[at];
+    }
+    let len = pattern.len();
+    if len == 0 {
+        return b'\n';
+    }
+    pattern[(at - first) % len]
+}
+
+// The block's first bytes, and then a pattern again and again.
+fn repeated(block: &[u8; 4055], first: usize, pattern: &[u8]) -> [u8; 65600]
     requires { ⌜ first ≤ 4055 ⌝ }
 {
     let mut out = [b'\n'; 65600];
     let mut i = 0;
-    while i < first {
-        out[i] = block[i];
-        i += 1;
-    }
-    out
-}
-
-// A pattern again and again from a place on.
-fn repeated(room: [u8; 65600], from: usize, pattern: &[u8]) -> [u8; 65600] {
-    let mut out = room;
-    let len = pattern.len();
-    if len == 0 {
-        return out;
-    }
-    let mut i = from;
     while i < 65600 {
-        out[i] = pattern[(i - from) % len];
+        out[i] = byte_at(block, first, pattern, i);
         i += 1;
     }
     out
@@ -190,7 +185,7 @@ fn repeated(room: [u8; 65600], from: usize, pattern: &[u8]) -> [u8; 65600] {
 fn sizes(start: Counts, block: [u8; 4055], first: usize, pattern: &[u8]) -> Counts
     requires { ⌜ first ≤ 4055 ⌝ }
 {
-    let room = repeated(headed(&block, first), first, pattern);
+    let room = repeated(&block, first, pattern);
     let mut c = start;
     let mut len = 65530;
     while len < 65545 {

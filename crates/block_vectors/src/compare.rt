@@ -7,31 +7,6 @@ use formats::block::Block;
 use formats::phase::Phase;
 use formats::phase::PhaseRead;
 
-fn same_bytes(a: &[u8], b: &[u8]) -> bool {
-    if a.len() != b.len() {
-        return false;
-    }
-    let mut i = 0;
-    while i < a.len() {
-        if a[i] != b[i] {
-            return false;
-        }
-        i += 1;
-    }
-    true
-}
-
-fn same_values(a: &[i64; 18], b: &[i64; 18]) -> bool {
-    let mut i = 0;
-    while i < 18 {
-        if a[i] != b[i] {
-            return false;
-        }
-        i += 1;
-    }
-    true
-}
-
 fn same_numbers(a: &[usize; 6], b: &[usize; 6]) -> bool {
     let mut i = 0;
     while i < 6 {
@@ -43,30 +18,42 @@ fn same_numbers(a: &[usize; 6], b: &[usize; 6]) -> bool {
     true
 }
 
-fn same_texts(a: Reading, b: Reading) -> bool {
-    let flags = a.flags;
-    let text = a.text;
-    let other_flags = b.flags;
-    let other_text = b.text;
-    if !same_bytes(&flags, &other_flags) {
-        return false;
+fn same_values(a: Reading, b: Reading) -> bool {
+    let mut i = 0;
+    while i < 18 {
+        if a.flags[i] != b.flags[i] {
+            return false;
+        }
+        if a.values[i] != b.values[i] {
+            return false;
+        }
+        i += 1;
     }
-    same_bytes(&text, &other_text)
+    true
+}
+
+fn same_text(a: Reading, b: Reading) -> bool {
+    let mut i = 0;
+    while i < 68 {
+        if a.text[i] != b.text[i] {
+            return false;
+        }
+        i += 1;
+    }
+    true
 }
 
 fn same_reading(a: Reading, b: Reading) -> bool {
-    let values = a.values;
-    let other_values = b.values;
     if a.answer != b.answer {
         return false;
     }
     if a.column != b.column {
         return false;
     }
-    if !same_values(&values, &other_values) {
-        return false;
+    if same_values(a, b) {
+        return same_text(a, b);
     }
-    same_texts(a, b)
+    false
 }
 
 // The library's outcome of a line in the second reader's form.
@@ -90,18 +77,36 @@ pub fn as_reading(r: PhaseRead) -> Reading {
     out
 }
 
-// Reads one line twice and counts the outcome; a difference is printed.
+// Counts an input; a difference is printed.
+fn judged(
+    c: Counts,
+    input: &[u8],
+    library: &[usize],
+    second: &[usize],
+    answer: usize,
+    same: bool,
+) -> Counts {
+    if same {
+        return counted(c, answer, true);
+    }
+    say_difference(input, library, second);
+    counted(c, answer, false)
+}
+
+// Reads one line twice and counts the outcome.
 pub fn compare_line(c: Counts, line: &[u8]) -> Counts {
     let a = as_reading(formats::phase::read_phase(line));
     let b = super::second::read_phase(line);
-    let answer = a.answer as usize;
-    if same_reading(a, b) {
-        return counted(c, answer, true);
-    }
-    let library = [answer, a.column];
+    let library = [a.answer as usize, a.column];
     let second = [b.answer as usize, b.column];
-    say_difference(line, &library, &second);
-    counted(c, answer, false)
+    judged(
+        c,
+        line,
+        &library,
+        &second,
+        a.answer as usize,
+        same_reading(a, b),
+    )
 }
 
 // The library's outcome of a block in the second reader's form.
@@ -112,13 +117,11 @@ pub fn as_numbers(r: Block) -> [usize; 6] {
     }
 }
 
-// Reads one block twice and counts the outcome; a difference is printed.
+// Reads one block twice and counts the outcome.
 pub fn compare_block(c: Counts, block: &[u8]) -> Counts {
     let a = as_numbers(formats::block::read_block(block));
     let b = super::second::block::read_block(block);
-    if same_numbers(&a, &b) {
-        return counted(c, a[0], true);
-    }
-    say_difference(block, &a, &b);
-    counted(c, a[0], false)
+    let same = same_numbers(&a, &b);
+    let answer = a[0];
+    judged(c, block, &a, &b, answer, same)
 }

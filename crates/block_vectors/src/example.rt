@@ -135,23 +135,18 @@ fn put(block: &mut [u8; 4055], at: usize, bytes: &[u8])
     }
 }
 
-fn put_line(block: &mut [u8; 4055], line: usize) {
-    let at = line_start(line);
-    match line {
-        2 => put(block, at, &ORIGIN),
-        21 => put(block, at, &MEASURE),
-        _ => put(block, at, &wide_line(line)),
-    }
-}
-
 // The whole block: newlines, and the lines over them.
 pub fn block() -> [u8; 4055] {
     let mut out = [b'\n'; 4055];
     let mut line = 0;
-    while line < 22 {
-        put_line(&mut out, line);
+    while line < 21 {
+        if line != 2 {
+            put(&mut out, line_start(line), &wide_line(line));
+        }
         line += 1;
     }
+    put(&mut out, line_start(2), &ORIGIN);
+    put(&mut out, line_start(21), &MEASURE);
     out
 }
 

@@ -16,88 +16,66 @@ fn fill(line: [u8; 210], first: usize, last: usize, byte: u8) -> [u8; 210]
     out
 }
 
-// What stands in a number field from some column on: a byte, then others, and the last one.
-struct Run {
-    head: u8,
-    rest: u8,
-    tail: u8,
-}
-
-// A field of blanks with a run from a column on, and the point where it belongs unless the run starts later.
-fn with_run(
+// A field of blanks and then, from each of its columns on, a byte, others and a last one, with the point where it belongs
+// unless these start later.
+fn filled(
+    start: Counts,
     line: [u8; 210],
     first: usize,
     point: usize,
     last: usize,
-    from: usize,
-    run: Run,
-) -> [u8; 210]
-    requires { ⌜ (1 ≤ first) × (first ≤ point) × (point ≤ last) × (last ≤ 199) × (first ≤ from) × (from ≤ last) ⌝ }
-{
-    let blank = fill(line, first, last, b' ');
-    let mut out = fill(blank, from, last, run.rest);
-    out[last - 1] = run.tail;
-    out[point - 1] = b'.';
-    out[from - 1] = run.head;
-    out
-}
-
-// Such runs from each column of a field on.
-fn runs(start: Counts, line: [u8; 210], first: usize, point: usize, last: usize, run: Run) -> Counts
+    head: u8,
+    rest: u8,
+    tail: u8,
+) -> Counts
     requires { ⌜ (1 ≤ first) × (first ≤ point) × (point ≤ last) × (last ≤ 199) ⌝ }
 {
     let mut c = start;
     let mut from = first;
     while from <= last {
-        c = compare_full(c, with_run(line, first, point, last, from, run));
+        let mut out = fill(fill(line, first, last, b' '), from, last, rest);
+        out[last - 1] = tail;
+        out[point - 1] = b'.';
+        out[from - 1] = head;
+        c = compare_full(c, out);
         from += 1;
     }
     c
 }
 
-// Blanks, the highest and the lowest numbers of each width, zero and minus zero, the numbers next to zero, bad signs, and
-// a blank at the end.
-const RUNS: [u8; 30] = *b"   999-99000-00001-01--1+1111 ";
-
-fn filled(start: Counts, line: [u8; 210], first: usize, point: usize, last: usize) -> Counts
+// Blanks, the highest and the lowest numbers of each width, zero, minus zero, the number below zero, bad signs, and a blank
+// at the end.
+fn forms(start: Counts, line: [u8; 210], first: usize, point: usize, last: usize) -> Counts
     requires { ⌜ (1 ≤ first) × (first ≤ point) × (point ≤ last) × (last ≤ 199) ⌝ }
 {
-    let mut c = start;
-    let mut i = 0;
-    while i < 10 {
-        let run = Run {
-            head: RUNS[3 * i],
-            rest: RUNS[3 * i + 1],
-            tail: RUNS[3 * i + 2],
-        };
-        c = runs(c, line, first, point, last, run);
-        i += 1;
-    }
-    c
-}
-
-// Distance to slowness residual.
-fn first_filled(start: Counts, line: [u8; 210]) -> Counts {
-    let c = filled(start, line, 7, 10, 12);
-    let c = filled(c, line, 14, 17, 18);
-    let c = filled(c, line, 42, 45, 46);
-    let c = filled(c, line, 48, 51, 52);
-    let c = filled(c, line, 54, 57, 58);
-    let c = filled(c, line, 60, 64, 65);
-    filled(c, line, 67, 71, 72)
+    let c = filled(start, line, first, point, last, b' ', b' ', b' ');
+    let c = filled(c, line, first, point, last, b'9', b'9', b'9');
+    let c = filled(c, line, first, point, last, b'-', b'9', b'9');
+    let c = filled(c, line, first, point, last, b'0', b'0', b'0');
+    let c = filled(c, line, first, point, last, b'-', b'0', b'0');
+    let c = filled(c, line, first, point, last, b'-', b'0', b'1');
+    let c = filled(c, line, first, point, last, b'-', b'-', b'1');
+    let c = filled(c, line, first, point, last, b'+', b'1', b'1');
+    filled(c, line, first, point, last, b'1', b'1', b' ')
 }
 
 // Every decimal field.
-pub fn fields_filled(start: Counts, line: [u8; 210]) -> Counts {
-    let c = first_filled(start, line);
-    let c = filled(c, line, 78, 81, 82);
-    let c = filled(c, line, 84, 91, 92);
-    let c = filled(c, line, 94, 96, 98);
-    let c = filled(c, line, 110, 112, 113);
-    let c = filled(c, line, 167, 170, 174);
-    let c = filled(c, line, 176, 180, 184);
-    let c = filled(c, line, 186, 191, 192);
-    filled(c, line, 194, 198, 199)
+pub fn decimals_filled(start: Counts, line: [u8; 210]) -> Counts {
+    let c = forms(start, line, 7, 10, 12);
+    let c = forms(c, line, 14, 17, 18);
+    let c = forms(c, line, 42, 45, 46);
+    let c = forms(c, line, 48, 51, 52);
+    let c = forms(c, line, 54, 57, 58);
+    let c = forms(c, line, 60, 64, 65);
+    let c = forms(c, line, 67, 71, 72);
+    let c = forms(c, line, 78, 81, 82);
+    let c = forms(c, line, 84, 91, 92);
+    let c = forms(c, line, 94, 96, 98);
+    let c = forms(c, line, 110, 112, 113);
+    let c = forms(c, line, 167, 170, 174);
+    let c = forms(c, line, 176, 180, 184);
+    let c = forms(c, line, 186, 191, 192);
+    forms(c, line, 194, 198, 199)
 }
 
 fn digit_byte(n: u64) -> u8 {
@@ -169,20 +147,15 @@ fn ends(
     about(c, line, first - 1, point, last, high)
 }
 
-// Distance to slowness residual; 2 stands for a lowest number of 0.
-fn first_ends(start: Counts, line: [u8; 210]) -> Counts {
+// The ends of every decimal field; 2 stands for a lowest number of 0.
+pub fn range_ends(start: Counts, line: [u8; 210]) -> Counts {
     let c = ends(start, line, 7, 10, 12, 2, 18000);
     let c = ends(c, line, 14, 17, 18, 2, 3600);
     let c = ends(c, line, 42, 45, 46, 999, 9999);
     let c = ends(c, line, 48, 51, 52, 2, 3600);
     let c = ends(c, line, 54, 57, 58, 999, 9999);
     let c = ends(c, line, 60, 64, 65, 9999, 99999);
-    ends(c, line, 67, 71, 72, 9999, 99999)
-}
-
-// The ends of every decimal field.
-pub fn range_ends(start: Counts, line: [u8; 210]) -> Counts {
-    let c = first_ends(start, line);
+    let c = ends(c, line, 67, 71, 72, 9999, 99999);
     let c = ends(c, line, 78, 81, 82, 999, 9999);
     let c = ends(c, line, 84, 91, 92, 9999999, 99999999);
     let c = ends(c, line, 94, 96, 98, 999, 9999);

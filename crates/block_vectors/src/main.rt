@@ -17,13 +17,11 @@ use report::say_count;
 use rows::row;
 ghost use Prim.Native.Nat.{_≤_};
 
-const BLOCK_NAMES: [u8; 46] = *b"answer|column|line|phases|comments|bytes used|";
-
 // Prints the block and what the library reads in it.
 fn show(block: [u8; 4055]) {
     say(&block);
     let numbers = compare::as_numbers(formats::block::read_block(&block));
-    report::say_named(&BLOCK_NAMES, &numbers);
+    report::say_answer(&numbers);
     let mut phase = 0;
     while phase < example::PHASES {
         let line = example::phase_line(phase);
@@ -35,11 +33,15 @@ fn show(block: [u8; 4055]) {
     }
 }
 
-const LINE_GROUPS: [u8; 180] =
-    *b"as they are|one byte changed|lengths 0 to 210|last two, every byte in every column|\
-    last two, three bytes changed|last two, decimals filled|last two, ends of ranges|last two, times|";
+// The groups of inputs: lines are the phase lines and the full line, two lines the last two of these.
+const GROUPS: [u8; 320] = *b"lines|lines, one byte changed|lines, lengths 0 to 210|\
+    two lines, every byte in every column|two lines, three bytes changed|two lines, decimals filled|\
+    two lines, ends of ranges|two lines, times|block|block, one byte changed|block, cut to each length|\
+    block, one line replaced|block, long comments|block, about 65536 bytes|";
 
-const LINE_GROUP_COUNT: usize = 8;
+const FIRST_BLOCK_GROUP: usize = 8;
+
+const ALL_GROUPS: usize = 14;
 
 // A group of lines made from one line.
 fn line_group(c: Counts, line: [u8; 210], group: usize) -> Counts {
@@ -49,13 +51,13 @@ fn line_group(c: Counts, line: [u8; 210], group: usize) -> Counts {
         2 => line_groups::lengths(c, line),
         3 => line_groups::every_byte(c, line),
         4 => line_groups::drawn(c, line),
-        5 => field_groups::fields_filled(c, line),
+        5 => field_groups::decimals_filled(c, line),
         6 => field_groups::range_ends(c, line),
         _ => field_groups::times(c, line),
     }
 }
 
-// The phase line from which on lines are taken for a group; the long groups have the last one and the full line.
+// The phase line from which on a group takes lines.
 fn first_phase(group: usize) -> usize
     ensures { λ r. ⌜ r ≤ 20 ⌝ }
 {
@@ -76,26 +78,21 @@ fn lines_of_group(start: Counts, group: usize) -> Counts {
     c
 }
 
-const BLOCK_GROUPS: [u8; 95] =
-    *b"as it is|one byte changed|cut to each length|one line replaced|long comments|about 65536 bytes|";
-
-const BLOCK_GROUP_COUNT: usize = 6;
-
-// A group of blocks made from the example block.
-fn block_group(c: Counts, block: [u8; 4055], group: usize) -> Counts {
+// A group of lines, or of blocks made from the example block.
+fn group_of(c: Counts, block: [u8; 4055], group: usize) -> Counts {
     match group {
-        0 => compare::compare_block(c, &block),
-        1 => block_groups::changed(c, block),
-        2 => block_groups::cut(c, block),
-        3 => block_groups::lines_replaced(c, block),
-        4 => block_groups::long_comments(c, block),
-        _ => block_groups::large(c, block),
+        8 => compare::compare_block(c, &block),
+        9 => block_groups::changed(c, block),
+        10 => block_groups::cut(c, block),
+        11 => block_groups::lines_replaced(c, block),
+        12 => block_groups::long_comments(c, block),
+        13 => block_groups::large(c, block),
+        _ => lines_of_group(c, group),
     }
 }
 
 // Prints a group's counts.
 fn say_group(name: &[u8], c: Counts) {
-    say(b"  ");
     say(name);
     say(b": ");
     say_count(c.agree);
@@ -111,41 +108,30 @@ fn say_answers(answers: [u64; 16]) {
     let mut answer: usize = 0;
     while answer < 16 {
         if answers[answer] != 0 {
-            say_answer(answer, answers[answer]);
+            say_inputs(answer, answers[answer]);
         }
         answer += 1;
     }
 }
 
-fn say_answer(answer: usize, inputs: u64) {
-    say(b"  answer ");
+fn say_inputs(answer: usize, inputs: u64) {
+    say(b"answer ");
     say_count(answer as u64);
     say(b": ");
     say_count(inputs);
     say(b"\n");
 }
 
-fn lines() {
-    say(b"example lines and a full line\n");
+// Runs the groups from one to another, and prints their counts and how many inputs got each answer.
+fn groups(block: [u8; 4055], from: usize, end: usize)
+    requires { ⌜ from ≤ end ⌝ }
+{
     let mut answers = [0u64; 16];
-    let mut group = 0;
-    while group < LINE_GROUP_COUNT {
-        let c = lines_of_group(next_group(answers), group);
+    let mut group = from;
+    while group < end {
+        let c = group_of(next_group(answers), block, group);
         answers = c.answers;
-        say_group(row(&LINE_GROUPS, group), c);
-        group += 1;
-    }
-    say_answers(answers);
-}
-
-fn blocks(block: [u8; 4055]) {
-    say(b"example block\n");
-    let mut answers = [0u64; 16];
-    let mut group = 0;
-    while group < BLOCK_GROUP_COUNT {
-        let c = block_group(next_group(answers), block, group);
-        answers = c.answers;
-        say_group(row(&BLOCK_GROUPS, group), c);
+        say_group(row(&GROUPS, group), c);
         group += 1;
     }
     say_answers(answers);
@@ -154,6 +140,6 @@ fn blocks(block: [u8; 4055]) {
 fn main() {
     let block = example::block();
     show(block);
-    lines();
-    blocks(block);
+    groups(block, 0, FIRST_BLOCK_GROUP);
+    groups(block, FIRST_BLOCK_GROUP, ALL_GROUPS);
 }

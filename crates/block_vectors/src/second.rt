@@ -259,23 +259,16 @@ fn letters(r: Reading, line: &[u8; 199]) -> Reading {
     letter(r, line, 109)
 }
 
-// The station's first column is not blank.
-fn station(r: Reading, line: &[u8; 199]) -> Reading {
-    if line[0] == b' ' {
-        return fault(r, REQUIRED, 1);
-    }
-    r
-}
-
-// All columns of a line of full width.
+// All columns of a line of full width. No fault is before a blank in the first.
 fn read_columns(line: &[u8; 199]) -> Reading {
+    if line[0] == b' ' {
+        return empty(REQUIRED, 1);
+    }
     let r = separators(empty(READ, 0), line);
-    let r = measured(station(r, line), line);
-    let r = place(amplitudes(r, line), line);
-    let r = letters(time(r, line), line);
-    let answer = r.answer;
-    if answer != READ {
-        return empty(answer, r.column);
+    let r = amplitudes(measured(r, line), line);
+    let r = letters(time(place(r, line), line), line);
+    if r.answer != READ {
+        return empty(r.answer, r.column);
     }
     let text = text_of(line);
     let mut whole = r;

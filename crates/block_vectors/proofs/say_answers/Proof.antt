@@ -18,14 +18,14 @@ mul-if1 c = search needs
 array-read-if1 : tie.Need-array-read-if1 Inv-loop μ-loop
 array-read-if1 c = search needs
 
-mul-say-answer : tie.Need-mul-say-answer Inv-loop μ-loop
-mul-say-answer c = search needs
+mul-say-inputs : tie.Need-mul-say-inputs Inv-loop μ-loop
+mul-say-inputs c = search needs
 
-array-read-say-answer : tie.Need-array-read-say-answer Inv-loop μ-loop
-array-read-say-answer c = search needs
+array-read-say-inputs : tie.Need-array-read-say-inputs Inv-loop μ-loop
+array-read-say-inputs c = search needs
 
-say-answer-requires : tie.Need-say-answer-requires Inv-loop μ-loop
-say-answer-requires c κs = search needs
+say-inputs-requires : tie.Need-say-inputs-requires Inv-loop μ-loop
+say-inputs-requires c κs = search needs
 
 add-answer : tie.Need-add-answer Inv-loop μ-loop
 add-answer c = search needs
@@ -48,9 +48,9 @@ say-answers-spec =
     loop-holds
     mul-if1
     array-read-if1
-    mul-say-answer
-    array-read-say-answer
-    say-answer-requires
+    mul-say-inputs
+    array-read-say-inputs
+    say-inputs-requires
     add-answer
     loop-less
     loop-again

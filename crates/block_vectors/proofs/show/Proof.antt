@@ -24,14 +24,11 @@ read-block-requires c κs = search needs
 as-numbers-requires : tie.Need-as-numbers-requires Inv-loop μ-loop
 as-numbers-requires c κs = search needs
 
-slice-aggregate-say-named : tie.Need-slice-aggregate-say-named Inv-loop μ-loop
-slice-aggregate-say-named c = search needs
+slice-aggregate-say-answer : tie.Need-slice-aggregate-say-answer Inv-loop μ-loop
+slice-aggregate-say-answer c = search needs
 
-slice-aggregate-say-named-2 : tie.Need-slice-aggregate-say-named-2 Inv-loop μ-loop
-slice-aggregate-say-named-2 c = search needs
-
-say-named-requires : tie.Need-say-named-requires Inv-loop μ-loop
-say-named-requires c κs = search needs
+say-answer-requires : tie.Need-say-answer-requires Inv-loop μ-loop
+say-answer-requires c κs = search needs
 
 loop-holds : tie.Need-loop-holds Inv-loop μ-loop
 loop-holds c = search needs
@@ -83,9 +80,8 @@ show-spec =
     slice-aggregate-read-block
     read-block-requires
     as-numbers-requires
-    slice-aggregate-say-named
-    slice-aggregate-say-named-2
-    say-named-requires
+    slice-aggregate-say-answer
+    say-answer-requires
     loop-holds
     phase-line-requires
     add-say-phase

@@ -23,7 +23,6 @@ struct Walk {
     column: usize,
     phases: usize,
     comments: usize,
-    used: usize,
 }
 
 fn one_more(n: usize) -> usize {
@@ -71,13 +70,6 @@ fn begins_comment(line: &[u8]) -> bool {
     line[1] == b'('
 }
 
-fn first_line(w: Walk, line: &[u8]) -> Walk {
-    if is_header(line) {
-        return w;
-    }
-    refuse(w, OUT_OF_PLACE, 0)
-}
-
 fn comment(w: Walk, line: &[u8]) -> Walk {
     if 1024 < line.len() {
         return refuse(w, LENGTH, 0);
@@ -107,10 +99,17 @@ fn phase(w: Walk, line: &[u8]) -> Walk {
     r
 }
 
-fn closing(w: Walk) -> Walk {
-    let mut r = w;
-    r.open = false;
-    r
+// Judges a line after the first: blanks close the block.
+fn later_line(w: Walk, line: &[u8]) -> Walk {
+    if blanks_from(line) == 0 {
+        let mut r = w;
+        r.open = false;
+        return r;
+    }
+    if begins_comment(line) {
+        return comment(w, line);
+    }
+    phase(w, line)
 }
 
 // Judges a line; `next` is the place after it.
@@ -118,17 +117,13 @@ fn judge(w: Walk, line: &[u8], next: usize) -> Walk {
     let mut r = w;
     r.lines = one_more(w.lines);
     r.start = next;
-    r.used = next;
-    if r.lines == 1 {
-        return first_line(r, line);
+    if r.lines != 1 {
+        return later_line(r, line);
     }
-    if blanks_from(line) == 0 {
-        return closing(r);
+    if is_header(line) {
+        return r;
     }
-    if begins_comment(line) {
-        return comment(r, line);
-    }
-    phase(r, line)
+    refuse(r, OUT_OF_PLACE, 0)
 }
 
 // The line that ends before `end`, if lines are wanted.
@@ -156,7 +151,6 @@ fn ended_lines(block: &[u8]) -> Walk {
         column: 0,
         phases: 0,
         comments: 0,
-        used: 0,
     };
     let mut i = 0;
     while i < block.len() {
@@ -190,5 +184,5 @@ pub fn read_block(block: &[u8]) -> [usize; 6] {
     if w.answer != READ {
         return [w.answer as usize, w.column, w.lines, 0, 0, 0];
     }
-    [0, 0, 0, w.phases, w.comments, w.used]
+    [0, 0, 0, w.phases, w.comments, w.start]
 }

@@ -14,19 +14,15 @@ fn copied(text: [u8; 68], to: usize, line: &[u8; 199], first: usize, last: usize
     out
 }
 
-// Station, phase, flags, letters, magnitude type and bound, arrival identification with its extension.
-fn first_text(line: &[u8; 199]) -> [u8; 68] {
+// The text columns in their order.
+pub fn text_of(line: &[u8; 199]) -> [u8; 68] {
     let t = [0u8; 68];
     let t = copied(t, 0, line, 1, 5);
     let t = copied(t, 5, line, 20, 27);
     let t = copied(t, 13, line, 74, 76);
     let t = copied(t, 16, line, 100, 102);
     let t = copied(t, 19, line, 104, 109);
-    copied(t, 25, line, 115, 125)
-}
-
-// Agency, deployment, location, author, reporter, phase channel, amplitude channel, long period motion.
-fn last_text(t: [u8; 68], line: &[u8; 199]) -> [u8; 68] {
+    let t = copied(t, 25, line, 115, 125);
     let t = copied(t, 36, line, 127, 131);
     let t = copied(t, 41, line, 133, 140);
     let t = copied(t, 49, line, 142, 143);
@@ -35,9 +31,4 @@ fn last_text(t: [u8; 68], line: &[u8; 199]) -> [u8; 68] {
     let t = copied(t, 61, line, 157, 159);
     let t = copied(t, 64, line, 161, 163);
     copied(t, 67, line, 165, 165)
-}
-
-// The text columns in their order.
-pub fn text_of(line: &[u8; 199]) -> [u8; 68] {
-    last_text(first_text(line), line)
 }

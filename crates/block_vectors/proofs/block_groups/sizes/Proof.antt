@@ -9,9 +9,6 @@ Inv-loop first pattern room c₀ len₀ c len = len ≤ 65545
 abbrev μ-loop : tie.MeasureT-loop
 μ-loop first pattern room c₀ len₀ c len = 65545 - len
 
-headed-requires : tie.Need-headed-requires Inv-loop μ-loop
-headed-requires c κs = search needs
-
 repeated-requires : tie.Need-repeated-requires Inv-loop μ-loop
 repeated-requires c κs = search needs
 
@@ -48,7 +45,6 @@ sizes-spec =
     (tie.spec
     Inv-loop
     μ-loop
-    headed-requires
     repeated-requires
     loop-holds
     sub-compare-block

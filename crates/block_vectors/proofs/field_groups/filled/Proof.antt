@@ -4,43 +4,43 @@ use Rattle.block_vectors.proofs.field_groups.filled.Statement.{statemen
 use Rattle.block_vectors.proofs.field_groups.filled.Tie as tie
 
 abbrev Inv-loop : tie.InvT-loop
-Inv-loop line first point last c₀ i₀ c i = i ≤ 10
+Inv-loop line first point last head rest tail c₀ from₀ c from = first ≤ from
 
 abbrev μ-loop : tie.MeasureT-loop
-μ-loop line first point last c₀ i₀ c i = 10 - i
+μ-loop line first point last head rest tail c₀ from₀ c from = 200 - from
 
 loop-holds : tie.Need-loop-holds Inv-loop μ-loop
 loop-holds c = search needs
 
-mul-t11 : tie.Need-mul-t11 Inv-loop μ-loop
-mul-t11 c = search needs
+fill-requires : tie.Need-fill-requires Inv-loop μ-loop
+fill-requires c κs = search needs
 
-array-read-t14 : tie.Need-array-read-t14 Inv-loop μ-loop
-array-read-t14 c = search needs
+fill-requires-2 : tie.Need-fill-requires-2 Inv-loop μ-loop
+fill-requires-2 c κs = search needs
 
-mul-t16 : tie.Need-mul-t16 Inv-loop μ-loop
-mul-t16 c = search needs
+sub-out : tie.Need-sub-out Inv-loop μ-loop
+sub-out c = search needs
 
-add-t17 : tie.Need-add-t17 Inv-loop μ-loop
-add-t17 c = search needs
+array-write-out : tie.Need-array-write-out Inv-loop μ-loop
+array-write-out c = search needs
 
-array-read-t20 : tie.Need-array-read-t20 Inv-loop μ-loop
-array-read-t20 c = search needs
+sub-out-2 : tie.Need-sub-out-2 Inv-loop μ-loop
+sub-out-2 c = search needs
 
-mul-t22 : tie.Need-mul-t22 Inv-loop μ-loop
-mul-t22 c = search needs
+array-write-out-2 : tie.Need-array-write-out-2 Inv-loop μ-loop
+array-write-out-2 c = search needs
 
-add-t23 : tie.Need-add-t23 Inv-loop μ-loop
-add-t23 c = search needs
+sub-out-3 : tie.Need-sub-out-3 Inv-loop μ-loop
+sub-out-3 c = search needs
 
-array-read-t26 : tie.Need-array-read-t26 Inv-loop μ-loop
-array-read-t26 c = search needs
+array-write-out-3 : tie.Need-array-write-out-3 Inv-loop μ-loop
+array-write-out-3 c = search needs
 
-runs-requires : tie.Need-runs-requires Inv-loop μ-loop
-runs-requires c κs = search needs
+compare-full-requires : tie.Need-compare-full-requires Inv-loop μ-loop
+compare-full-requires c κs = search needs
 
-add-i : tie.Need-add-i Inv-loop μ-loop
-add-i c = search needs
+add-from : tie.Need-add-from Inv-loop μ-loop
+add-from c = search needs
 
 loop-less : tie.Need-loop-less Inv-loop μ-loop
 loop-less c = search needs
@@ -58,16 +58,16 @@ filled-spec =
     Inv-loop
     μ-loop
     loop-holds
-    mul-t11
-    array-read-t14
-    mul-t16
-    add-t17
-    array-read-t20
-    mul-t22
-    add-t23
-    array-read-t26
-    runs-requires
-    add-i
+    fill-requires
+    fill-requires-2
+    sub-out
+    array-write-out
+    sub-out-2
+    array-write-out-2
+    sub-out-3
+    array-write-out-3
+    compare-full-requires
+    add-from
     loop-less
     loop-again
     returns)

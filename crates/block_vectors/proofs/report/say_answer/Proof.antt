@@ -1,17 +1,20 @@
 use borrow.Author.Needs.{needs}
 use Prim.Native.Nat.{_≤_, _-_}
 use lib.ListN.{length}
-use Rattle.block_vectors.proofs.report.say_named.Statement.{statement}
-use Rattle.block_vectors.proofs.report.say_named.Tie as tie
+use Rattle.block_vectors.proofs.report.say_answer.Statement.{statement}
+use Rattle.block_vectors.proofs.report.say_answer.Tie as tie
 
 abbrev Inv-loop : tie.InvT-loop
-Inv-loop names numbers i₀ t4 t5 i = i ≤ length numbers
+Inv-loop numbers i₀ t3 t4 t5 i = i ≤ length numbers
 
 abbrev μ-loop : tie.MeasureT-loop
-μ-loop names numbers i₀ t4 t5 i = length numbers - i
+μ-loop numbers i₀ t3 t4 t5 i = length numbers - i
 
 loop-holds : tie.Need-loop-holds Inv-loop μ-loop
 loop-holds c = search needs
+
+slice-aggregate-row : tie.Need-slice-aggregate-row Inv-loop μ-loop
+slice-aggregate-row c = search needs
 
 row-requires : tie.Need-row-requires Inv-loop μ-loop
 row-requires c κs = search needs
@@ -52,13 +55,14 @@ loop-again c = search needs
 returns : tie.Need-returns Inv-loop μ-loop
 returns c = search needs
 
-pub say-named-spec : {M : Type 1} → statement M
-say-named-spec =
+pub say-answer-spec : {M : Type 1} → statement M
+say-answer-spec =
     tie.close
     (tie.spec
     Inv-loop
     μ-loop
     loop-holds
+    slice-aggregate-row
     row-requires
     say-requires
     slice-aggregate-say

@@ -1,19 +1,13 @@
 use borrow.Author.Needs.{needs}
 use Prim.Native.Nat.{_≤_, _-_}
-use Rattle.block_vectors.proofs.blocks.Statement.{statement}
-use Rattle.block_vectors.proofs.blocks.Tie as tie
+use Rattle.block_vectors.proofs.groups.Statement.{statement}
+use Rattle.block_vectors.proofs.groups.Tie as tie
 
 abbrev Inv-loop : tie.InvT-loop
-Inv-loop block answers₀ group₀ t6 answers group = group ≤ 6
+Inv-loop block from end answers₀ group₀ t7 answers group = group ≤ end
 
 abbrev μ-loop : tie.MeasureT-loop
-μ-loop block answers₀ group₀ t6 answers group = 6 - group
-
-slice-aggregate-say : tie.Need-slice-aggregate-say Inv-loop μ-loop
-slice-aggregate-say c = search needs
-
-say-requires : tie.Need-say-requires Inv-loop μ-loop
-say-requires c κs = search needs
+μ-loop block from end answers₀ group₀ t7 answers group = end - group
 
 loop-holds : tie.Need-loop-holds Inv-loop μ-loop
 loop-holds c = search needs
@@ -21,8 +15,8 @@ loop-holds c = search needs
 next-group-requires : tie.Need-next-group-requires Inv-loop μ-loop
 next-group-requires c κs = search needs
 
-block-group-requires : tie.Need-block-group-requires Inv-loop μ-loop
-block-group-requires c κs = search needs
+group-of-requires : tie.Need-group-of-requires Inv-loop μ-loop
+group-of-requires c κs = search needs
 
 slice-aggregate-row : tie.Need-slice-aggregate-row Inv-loop μ-loop
 slice-aggregate-row c = search needs
@@ -48,17 +42,15 @@ say-answers-requires c κs = search needs
 returns : tie.Need-returns Inv-loop μ-loop
 returns c = search needs
 
-pub blocks-spec : {M : Type 1} → statement M
-blocks-spec =
+pub groups-spec : {M : Type 1} → statement M
+groups-spec =
     tie.close
     (tie.spec
     Inv-loop
     μ-loop
-    slice-aggregate-say
-    say-requires
     loop-holds
     next-group-requires
-    block-group-requires
+    group-of-requires
     slice-aggregate-row
     row-requires
     say-group-requires
