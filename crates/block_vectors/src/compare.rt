@@ -7,9 +7,12 @@ use formats::block::Block;
 use formats::phase::Phase;
 use formats::phase::PhaseRead;
 
-fn same_numbers(a: &[usize; 6], b: &[usize; 6]) -> bool {
+fn same_numbers(a: &[usize], b: &[usize]) -> bool {
     let mut i = 0;
-    while i < 6 {
+    while i < a.len() {
+        if b.len() <= i {
+            return false;
+        }
         if a[i] != b[i] {
             return false;
         }
@@ -43,13 +46,7 @@ fn same_text(a: Reading, b: Reading) -> bool {
     true
 }
 
-fn same_reading(a: Reading, b: Reading) -> bool {
-    if a.answer != b.answer {
-        return false;
-    }
-    if a.column != b.column {
-        return false;
-    }
+fn same_record(a: Reading, b: Reading) -> bool {
     if same_values(a, b) {
         return same_text(a, b);
     }
@@ -77,17 +74,16 @@ pub fn as_reading(r: PhaseRead) -> Reading {
     out
 }
 
-// Counts an input; a difference is printed.
-fn judged(
-    c: Counts,
-    input: &[u8],
-    library: &[usize],
-    second: &[usize],
-    answer: usize,
-    same: bool,
-) -> Counts {
-    if same {
-        return counted(c, answer, true);
+// Counts an input by what is answered for it, the number first; a difference is printed.
+fn judged(c: Counts, input: &[u8], library: &[usize], second: &[usize], same_rest: bool) -> Counts {
+    if library.len() == 0 {
+        return c;
+    }
+    let answer = library[0];
+    if same_numbers(library, second) {
+        if same_rest {
+            return counted(c, answer, true);
+        }
     }
     say_difference(input, library, second);
     counted(c, answer, false)
@@ -99,14 +95,7 @@ pub fn compare_line(c: Counts, line: &[u8]) -> Counts {
     let b = super::second::read_phase(line);
     let library = [a.answer as usize, a.column];
     let second = [b.answer as usize, b.column];
-    judged(
-        c,
-        line,
-        &library,
-        &second,
-        a.answer as usize,
-        same_reading(a, b),
-    )
+    judged(c, line, &library, &second, same_record(a, b))
 }
 
 // The library's outcome of a block in the second reader's form.
@@ -119,9 +108,7 @@ pub fn as_numbers(r: Block) -> [usize; 6] {
 
 // Reads one block twice and counts the outcome.
 pub fn compare_block(c: Counts, block: &[u8]) -> Counts {
-    let a = as_numbers(formats::block::read_block(block));
-    let b = super::second::block::read_block(block);
-    let same = same_numbers(&a, &b);
-    let answer = a[0];
-    judged(c, block, &a, &b, answer, same)
+    let library = as_numbers(formats::block::read_block(block));
+    let second = super::second::block::read_block(block);
+    judged(c, block, &library, &second, true)
 }

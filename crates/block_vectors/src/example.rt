@@ -1,9 +1,9 @@
 // A phase block of document 003's example: its header, its phase lines, two of its comments and a closing line. The printed
-// example has lost its columns, so each line is laid out by the table "Phase Block Format"; its values are those printed,
-// seconds with the three decimals of the table.
-ghost use Prim.Native.Nat.{_+_, _≤_};
-ghost use lib.ListN.{length};
+// example has lost its columns, so each line is laid out by the table "Phase Block Format".
+ghost use Prim.Native.Nat.{_≤_};
 
+// Values are those printed, and blank where none is. Seconds have the table's three decimals; an identification of nine
+// digits reaches into its extension, and a digit printed once more behind it is left out.
 const HEADER: [u8; 199] =
     *b"Sta     Dist  EvAz Phase        Time      TRes  Azim AzRes   Slow   SRes Def   SNR       Amp   Per Qual Magnitude    ArrID    Agy   Deploy   Ln Auth  Rep   PCh ACh L   Lat       Lon     Elev    Depth";
 
@@ -76,10 +76,10 @@ const FULL: [u8; 199] =
 
 pub const PHASES: usize = 19;
 
-// The block's lines: the header is line 0, the comments lines 2 and 21, the closing line line 22.
+// The block's lines, from 0: the header is line 0, the comments are lines 2 and 21, the closing line is line 22.
 pub const LINES: usize = 23;
 
-// A line that is no comment, by its number.
+// The header or a phase line by its number; the full line for any other.
 fn wide_line(line: usize) -> [u8; 199] {
     match line {
         0 => HEADER,
@@ -150,7 +150,7 @@ pub fn block() -> [u8; 4055] {
     out
 }
 
-// A line that is no comment, with blanks to 210 bytes.
+// Such a line with blanks to 210 bytes.
 fn widened(line: usize) -> [u8; 210] {
     let bytes = wide_line(line);
     let mut out = [b' '; 210];
@@ -162,7 +162,7 @@ fn widened(line: usize) -> [u8; 210] {
     out
 }
 
-// A phase line, from 0, with blanks to 210 bytes.
+// The phase lines, from 0, and after them the full line.
 pub fn phase_line(phase: usize) -> [u8; 210] {
     if phase == 0 {
         return widened(1);

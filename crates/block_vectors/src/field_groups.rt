@@ -1,7 +1,7 @@
 // Groups of lines in which the number fields and the clock time of one line are filled, each compared by both readers.
 use super::counts::Counts;
 use super::line_groups::compare_full;
-ghost use Prim.Native.Nat.{_+_, _≤_, _<_};
+ghost use Prim.Native.Nat.{_≤_, _<_};
 
 // One byte in the columns from `first` to `last`.
 fn fill(line: [u8; 210], first: usize, last: usize, byte: u8) -> [u8; 210]
@@ -16,8 +16,8 @@ fn fill(line: [u8; 210], first: usize, last: usize, byte: u8) -> [u8; 210]
     out
 }
 
-// A field of blanks and then, from each of its columns on, a byte, others and a last one, with the point where it belongs
-// unless these start later.
+// A field of blanks and then, from each of its columns on, a first byte, others and a last one, with the point where it
+// belongs.
 fn filled(
     start: Counts,
     line: [u8; 210],
@@ -166,9 +166,10 @@ pub fn range_ends(start: Counts, line: [u8; 210]) -> Counts {
     ends(c, line, 194, 198, 199, 9999, 99999)
 }
 
-const TIME_BYTES: [u8; 12] = *b" -0123569:.A";
+// Digits about the ends of hour, minute and second, and bytes of good and bad form.
+const TIME_BYTES: [u8; 12] = *b" -0234569:.A";
 
-// Each pair of the bytes that matter in a time, in a column and the next.
+// Each pair of these bytes in a column and the next.
 fn pairs(start: Counts, line: [u8; 210], column: usize) -> Counts
     requires { ⌜ (1 ≤ column) × (column ≤ 199) ⌝ }
 {
@@ -184,7 +185,7 @@ fn pairs(start: Counts, line: [u8; 210], column: usize) -> Counts
     c
 }
 
-// Times in and out of range, of good and bad form, and blank.
+// Times in and out of range, of good and bad form.
 const TIMES: [u8; 108] = *b"00:00:00.00023:59:59.99924:60:60.000\
     -1:-1:-1.000-0:-0:-0.00012:xx:00.000\
     x12:3:04.005  :  :       1: 2: 3.004";
@@ -213,6 +214,7 @@ fn times_from(start: Counts, line: [u8; 210]) -> Counts {
     pairs(c, line, 39)
 }
 
+// Every time, and a blank one.
 pub fn times(start: Counts, line: [u8; 210]) -> Counts {
     let mut c = times_from(start, fill(line, 29, 40, b' '));
     let mut number = 0;

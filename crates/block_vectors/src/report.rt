@@ -12,6 +12,7 @@ const TEXT_NAMES: [u8; 243] = *b"station|phase|time defining|azimuth defining|sl
     type of pick|short period motion|onset|magnitude type|bound|arrival|arrival extension|\
     agency|deployment|location|author|reporter|phase channel|amplitude channel|long period motion|";
 
+// Their widths.
 const TEXT_WIDTHS: [u8; 20] = *b"58111111518358255331";
 
 // A record's numbers in the order of their columns.

@@ -3,7 +3,7 @@
 // repeated by the other.
 pub mod block;
 mod clock;
-pub mod header;
+mod header;
 mod number;
 mod text;
 
@@ -80,17 +80,14 @@ pub fn lowest_barred(line: &[u8]) -> usize {
     0
 }
 
-// Judges a column that is no part of a field: it is to be blank.
+// Judges a column that is part of no field: it is to be blank.
 fn separator(r: Reading, column: usize, b: u8) -> Reading {
     if b == b' ' {
         return r;
     }
     match column {
-        6 | 13 | 19 | 28 | 41 | 47 | 53 | 59 | 66 | 73 | 77 | 83 | 93 | 99 => fault(
-            r,
-            SEPARATOR,
-            column,
-        ),
+        6 | 13 | 19 | 28 | 41 | 47 | 53 => fault(r, SEPARATOR, column),
+        59 | 66 | 73 | 77 | 83 | 93 | 99 => fault(r, SEPARATOR, column),
         103 | 114 | 126 | 132 | 141 | 144 | 150 => fault(r, SEPARATOR, column),
         156 | 160 | 164 | 166 | 175 | 185 | 193 => fault(r, SEPARATOR, column),
         _ => r,
@@ -149,27 +146,19 @@ fn field(
     }
 }
 
-// Distance, event azimuth, time residual, observed azimuth, azimuth residual, slowness, slowness residual.
-fn measured(r: Reading, line: &[u8; 199]) -> Reading {
+// Every decimal field: its place among the numbers, its first column, its point's and its last, and its range.
+fn decimals(r: Reading, line: &[u8; 199]) -> Reading {
     let r = field(r, line, 0, 7, 10, 12, 0, 18000);
     let r = field(r, line, 1, 14, 17, 18, 0, 3600);
     let r = field(r, line, 5, 42, 45, 46, -999, 9999);
     let r = field(r, line, 6, 48, 51, 52, 0, 3600);
     let r = field(r, line, 7, 54, 57, 58, -999, 9999);
     let r = field(r, line, 8, 60, 64, 65, -9999, 99999);
-    field(r, line, 9, 67, 71, 72, -9999, 99999)
-}
-
-// Signal to noise, amplitude, period, magnitude.
-fn amplitudes(r: Reading, line: &[u8; 199]) -> Reading {
+    let r = field(r, line, 9, 67, 71, 72, -9999, 99999);
     let r = field(r, line, 10, 78, 81, 82, -999, 9999);
     let r = field(r, line, 11, 84, 91, 92, -9999999, 99999999);
     let r = field(r, line, 12, 94, 96, 98, -999, 9999);
-    field(r, line, 13, 110, 112, 113, -99, 999)
-}
-
-// Latitude, longitude, elevation, depth.
-fn place(r: Reading, line: &[u8; 199]) -> Reading {
+    let r = field(r, line, 13, 110, 112, 113, -99, 999);
     let r = field(r, line, 14, 167, 170, 174, -900000, 900000);
     let r = field(r, line, 15, 176, 180, 184, -1800000, 1800000);
     let r = field(r, line, 16, 186, 191, 192, -99999, 999999);
@@ -259,14 +248,13 @@ fn letters(r: Reading, line: &[u8; 199]) -> Reading {
     letter(r, line, 109)
 }
 
-// All columns of a line of full width. No fault is before a blank in the first.
+// All columns of a line of full width. A blank in the first is the fault of the lowest column.
 fn read_columns(line: &[u8; 199]) -> Reading {
     if line[0] == b' ' {
         return empty(REQUIRED, 1);
     }
     let r = separators(empty(READ, 0), line);
-    let r = amplitudes(measured(r, line), line);
-    let r = letters(time(place(r, line), line), line);
+    let r = letters(time(decimals(r, line), line), line);
     if r.answer != READ {
         return empty(r.answer, r.column);
     }

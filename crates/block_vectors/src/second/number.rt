@@ -1,5 +1,5 @@
 // The number fields of the second reader: each byte is judged by what part of the number came before it.
-ghost use Prim.Native.Nat.{_≤_, _<_};
+ghost use Prim.Native.Nat.{_≤_};
 
 // The parts of a number field in their order, and bad form.
 const BLANKS: u8 = 0;
