@@ -5,16 +5,19 @@ VERSION = 0.1.0
 ARCHIVE = target/staticlib/librotmibel.a
 PROGRAM = target/bin/take
 TO = $(DESTDIR)$(PREFIX)
+SOURCES := crates.txt $(shell find crates -name '*.rt' -o -name '*.antt')
 
 .PHONY: all check install clean
 
 all: $(ARCHIVE) $(PROGRAM)
 
-$(ARCHIVE):
+$(ARCHIVE): $(SOURCES)
 	rt staticlib rotmibel
+	touch $@
 
-$(PROGRAM):
+$(PROGRAM): $(SOURCES)
 	rt check take
+	touch $@
 
 check:
 	.ci/run
