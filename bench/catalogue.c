@@ -6,7 +6,7 @@
 #include <string.h>
 #include <time.h>
 
-#define ROOM 46596
+#define ROOM ROTMIBEL_ROOM
 #define PAIRS 512
 #define HELD 80
 #define GONE 11

@@ -5,7 +5,7 @@ use mathlib.Core.Path.{_≡_}
 use mathlib.Core.List.{List, [], _∷_, _++_}
 use lib.ListN.{length, take, drop, set, getD}
 use lib.Dec.{eqb}
-use Rattle.formats.specs.Cube.{Message}
+use Rattle.formats.specs.Cube.{Message, eventKind}
 use Rattle.catalogue.specs.Assoc.{put}
 use Rattle.catalogue.specs.Line.{pair, deletion, key, deletionKey}
 use Rattle.catalogue.specs.declared.take.Sort.{Sort}
@@ -15,9 +15,7 @@ use Rattle.catalogue.specs.Catalogue.{Catalogue, Taken}
 use Rattle.catalogue.specs.declared.take.Wipe.{Wipe}
 use Rattle.catalogue.specs.declared.take.Plan.{Plan}
 use Rattle.catalogue.specs.declared.take.Plan.the-variants.{Answer, Store, Replace}
-use Rattle.formats.specs.declared.cube.Read.{Read as LineKind}
 use Rattle.formats.specs.Cube as cube
-use Rattle.formats.specs.declared.cube.Read.the-variants as line
 use Rattle.catalogue.specs.declared.take.Sort.the-variants as sort
 use Rattle.catalogue.specs.declared.take.Wipe.the-variants as wipe
 
@@ -70,8 +68,6 @@ sortIn (ok (cube.event ns t)) = sort.Event
 sortIn (ok (cube.delete names t)) = pick (eqb (getD names 10 0) 32) sort.Blank sort.Delete
 sortIn (refusal n k) = sort.Refused n k
 
--- the same, of the reader's outcome and the version of a delete
-abbrev pub sortBy : LineKind → ℕ → Sort
-sortBy line.Event v = sort.Event
-sortBy (line.Delete n) v = pick (eqb v 32) sort.Blank sort.Delete
-sortBy (line.Refused n k) v = sort.Refused n k
+-- the same of a record that is there, by its kind and the version of a delete
+abbrev pub sortBy : ℕ → ℕ → Sort
+sortBy k v = pick (eqb k eventKind) sort.Event (pick (eqb v 32) sort.Blank sort.Delete)

@@ -1,6 +1,7 @@
 // A line taken into a room that is in order.
 use super::Call;
 use super::rows::Seek;
+use formats::cube::EVENT;
 use formats::cube::Read;
 use formats::cube::read_line;
 use formats::record::same;
@@ -340,32 +341,34 @@ pub enum Sort {
     Refused(u8, usize),
 }
 
-// What an outcome of the line reader is to the catalogue, with the version of a delete.
-fn sort_by(read: Read, version: u8) -> Sort
-    ensures { λ r. ⌜ r ≡ sortBy read version ⌝ }
+// What a record that is there is to the catalogue, by its kind and the version of a delete.
+fn sort_by(kind: u8, version: u8) -> Sort
+    ensures { λ r. ⌜ r ≡ sortBy kind version ⌝ }
 {
-    match read {
-        Read::Event => Sort::Event,
-        Read::Delete(_) => {
-            if version == 32 {
-                return Sort::Blank;
-            }
-            Sort::Delete
-        }
-        Read::Refused(number, column) => Sort::Refused(number, column),
+    if kind == EVENT {
+        return Sort::Event;
     }
+    if version == 32 {
+        return Sort::Blank;
+    }
+    Sort::Delete
 }
 
+// A line read goes on only when its record is there; otherwise the refusal passes up.
 fn sort_of(line: &[u8]) -> Sort
     ensures { λ r. ⌜ r ≡ sortIn (readLine (now (line .entry))) ⌝ }
 {
     let got = read_line(line);
     let read = got.read;
     let text = got.text;
-    let Read::Event = read else {
-        return sort_by(read, text[10]);
+    let Read::There(kind, _) = read else {
+        // What is not there was refused: the inner else is not reached.
+        let Read::Refused(number, column) = read else {
+            return Sort::Refused(0, 0);
+        };
+        return Sort::Refused(number, column);
     };
-    Sort::Event
+    sort_by(kind, text[10])
 }
 
 // A line, taken into a room in order, which stays in order. No whole-room check is made.

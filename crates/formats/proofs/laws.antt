@@ -3,6 +3,8 @@ pub mod Cube
 pub mod CubeWriting
 pub mod CubeBack
 pub mod Record
+pub mod Tri
+pub mod Words
 pub mod CubeRecord
 pub mod CubeRecordBack
 pub mod CubeFields

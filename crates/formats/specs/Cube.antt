@@ -113,17 +113,24 @@ readLine l =
 
 -- ---- what the code returns for an answer: the arrays are zero but for the record
 
+-- the kinds of record, as docs/RECORDS.md numbers them
+abbrev pub eventKind : ℕ
+eventKind = 1
+
+abbrev pub deleteKind : ℕ
+deleteKind = 2
+
 abbrev pub lineOf : Answer Message → LineRead
 lineOf (ok (event ns t)) =
     record {
-      read = R.Event;
+      read = R.There eventKind 0;
       flags = over (flagsOf ns) (replicate 19 0);
       values = over (valuesOf ns) (replicate 19 (pos 0));
       text = over t (replicate 78 0);
     }
 lineOf (ok (delete names t)) =
     record {
-      read = R.Delete (length t);
+      read = R.There deleteKind (length t);
       flags = replicate 19 0;
       values = replicate 19 (pos 0);
       text = over (names ++ t) (replicate 78 0);

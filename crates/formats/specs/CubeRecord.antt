@@ -5,7 +5,7 @@ use lib.ListN.{length, take, drop, getD, replicate}
 use lib.Dec.{eqb, ltb}
 use Rattle.columns.specs.Answer.{pick, Answer, ok, refusal, badForm, tooShort}
 use Rattle.columns.specs.Table.{flagsOf, valuesOf, over}
-use Rattle.formats.specs.Cube.{Message, event, delete, unless, readLine, writeMessage}
+use Rattle.formats.specs.Cube.{Message, event, delete, eventKind, deleteKind, unless, readLine, writeMessage}
 use Rattle.formats.specs.Record.{packed, slotsIn, sameBytes}
 
 -- 268 bytes, zero where the record says nothing
@@ -15,11 +15,11 @@ recordSize = 268
 abbrev pub filled : List ℕ → List ℕ
 filled s = over s (replicate 268 0)
 
--- an event: 1, its 19 flags, its 19 numbers, its 13 text bytes
--- a delete: 2, the length of its text, identifier, source and version, its text
+-- an event: its kind, its 19 flags, its 19 numbers, its 13 text bytes
+-- a delete: its kind, the length of its text, identifier, source and version, its text
 abbrev pub recordOf : Message → List ℕ
-recordOf (event ns t) = filled (packed 1 (flagsOf ns) (valuesOf ns) t)
-recordOf (delete names t) = filled (2 ∷ length t ∷ (names ++ t))
+recordOf (event ns t) = filled (packed eventKind (flagsOf ns) (valuesOf ns) t)
+recordOf (delete names t) = filled (deleteKind ∷ length t ∷ (names ++ t))
 
 -- the message that some bytes name
 abbrev pub eventIn : List ℕ → Message
@@ -29,7 +29,7 @@ abbrev pub deleteIn : List ℕ → Message
 deleteIn r = delete (take 11 (drop 2 r)) (take (getD r 1 0) (drop 13 r))
 
 abbrev pub messageIn : List ℕ → Message
-messageIn r = pick (eqb (getD r 0 0) 1) (eventIn r) (deleteIn r)
+messageIn r = pick (eqb (getD r 0 0) eventKind) (eventIn r) (deleteIn r)
 
 -- bytes are a record when they are those of the message that they name; else 6 at column 0
 unfoldable pub readRecord : List ℕ → Answer Message

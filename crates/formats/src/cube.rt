@@ -171,10 +171,14 @@ const EVENT_LETTERS: [u8; 1] = [0];
 
 const EVENT_COLUMNS: usize = 24;
 
-// What was read: an event, a delete with the length of its free text, or the number of a refusal and its column.
+// The kinds of record, as docs/RECORDS.md numbers them.
+pub const EVENT: u8 = 1;
+
+pub const DELETE: u8 = 2;
+
+// What reading a line gives: a record that is there, with its kind and the length of its free text, or the number and column of a refusal.
 pub enum Read {
-    Event,
-    Delete(usize),
+    There(u8, usize),
     Refused(u8, usize),
 }
 
@@ -223,7 +227,7 @@ fn read_event_columns(line: &[u8]) -> LineRead
     match outcome {
         Outcome::Refused(number, column) => refused(number, column),
         Outcome::Done => LineRead {
-            read: Read::Event,
+            read: Read::There(EVENT, 0),
             flags,
             values,
             text,
@@ -268,7 +272,7 @@ fn read_delete(line: &[u8]) -> LineRead
     let mut text = [0u8; 78];
     copy(&mut text, &line[2..len]);
     LineRead {
-        read: Read::Delete(len - 13),
+        read: Read::There(DELETE, len - 13),
         flags,
         values,
         text,

@@ -1,5 +1,7 @@
 // CUBE records as bytes: lines read into them and written from them.
 use super::Reply;
+use super::cube::DELETE;
+use super::cube::EVENT;
 use super::cube::Read;
 use super::cube::read_line;
 use super::cube::write_delete;
@@ -14,19 +16,16 @@ ghost use mathlib.Core.List.{_∷_};
 ghost use Prim.Native.Nat.{_+_, _≤_};
 ghost use lib.ListN.{length, take, getD};
 ghost use Rattle.columns.specs.Table.{over, slotsOf};
+ghost use Rattle.formats.specs.Cube.{eventKind, deleteKind};
 ghost use Rattle.formats.specs.Record.{packed, Replied, replied};
 ghost use Rattle.formats.specs.CubeRecord.{filled, readInto, writeFrom};
 
 // The bytes of a record of either kind.
 pub const RECORD: usize = 268;
 
-const EVENT: u8 = 1;
-
-const DELETE: u8 = 2;
-
 fn event_bytes(flags: &[u8; 19], values: &[i64; 19], text: &[u8]) -> [u8; 268]
     requires { ⌜ length (now text) ≡ 13 ⌝ }
-    ensures { λ r. ⌜ r ≡ filled (packed 1 (now (flags .entry)) (now (values .entry)) (now (text .entry))) ⌝ }
+    ensures { λ r. ⌜ r ≡ filled (packed eventKind (now (flags .entry)) (now (values .entry)) (now (text .entry))) ⌝ }
 {
     let mut bytes = [0u8; 268];
     pack(&mut bytes, EVENT, flags, values, text);
@@ -36,7 +35,7 @@ fn event_bytes(flags: &[u8; 19], values: &[i64; 19], text: &[u8]) -> [u8; 268]
 // `chars` are the names, 11 bytes, and the text.
 fn delete_bytes(len: u8, chars: &[u8]) -> [u8; 268]
     requires { ⌜ length (now chars) ≤ 266 ⌝ }
-    ensures { λ r. ⌜ r ≡ filled (2 ∷ len ∷ now (chars .entry)) ⌝ }
+    ensures { λ r. ⌜ r ≡ filled (deleteKind ∷ len ∷ now (chars .entry)) ⌝ }
 {
     let mut bytes = [0u8; 268];
     bytes[0] = DELETE;
@@ -60,12 +59,12 @@ pub fn read_into(line: &[u8], out: &mut [u8]) -> Reply
     let text = got.text;
     match read {
         Read::Refused(number, column) => Reply::Refused(number, column),
-        Read::Event => {
-            let bytes = event_bytes(&flags, &values, &text[0..13]);
-            copy(out, &bytes);
-            Reply::Done(RECORD)
-        }
-        Read::Delete(len) => {
+        Read::There(kind, len) => {
+            if kind == EVENT {
+                let bytes = event_bytes(&flags, &values, &text[0..13]);
+                copy(out, &bytes);
+                return Reply::Done(RECORD);
+            }
             let end = 11 + len;
             let bytes = delete_bytes(len as u8, &text[0..end]);
             copy(out, &bytes);
@@ -85,7 +84,7 @@ pub fn reply_of(r: Outcome, len: usize) -> Reply
 
 // The line of an event's record, of exactly 268 bytes.
 fn write_event_from(from: &[u8], out: &mut [u8]) -> Reply
-    requires { ⌜ (length (now from) ≡ 268) × (getD (now from) 0 0 ≡ 1) ⌝ }
+    requires { ⌜ (length (now from) ≡ 268) × (getD (now from) 0 0 ≡ eventKind) ⌝ }
     ensures { λ r. ⌜ Replied (writeFrom (now (from .entry)) (length (now (out .entry)))) r (now (out .entry)) (now (out .exit)) ⌝ }
 {
     let mut flags = [0u8; 19];
@@ -102,7 +101,7 @@ fn write_event_from(from: &[u8], out: &mut [u8]) -> Reply
 
 // The line of a delete's record, of exactly 268 bytes, with a text of `len` bytes.
 fn write_delete_from(from: &[u8], len: u8, out: &mut [u8]) -> Reply
-    requires { ⌜ (length (now from) ≡ 268) × ((getD (now from) 0 0 ≡ 1 → ⊥) × (getD (now from) 1 0 ≡ len)) ⌝ }
+    requires { ⌜ (length (now from) ≡ 268) × ((getD (now from) 0 0 ≡ eventKind → ⊥) × (getD (now from) 1 0 ≡ len)) ⌝ }
     ensures { λ r. ⌜ Replied (writeFrom (now (from .entry)) (length (now (out .entry)))) r (now (out .entry)) (now (out .exit)) ⌝ }
 {
     let end = 13 + (len as usize);

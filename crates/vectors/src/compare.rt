@@ -2,8 +2,6 @@
 use super::report::say;
 use super::report::say_bytes;
 use super::report::say_count;
-use super::second::DELETE;
-use super::second::EVENT;
 use super::second::NONE;
 use super::second::Reading;
 use formats::cube::LineRead;
@@ -105,11 +103,8 @@ pub fn as_reading(r: LineRead) -> Reading {
         text,
     };
     match read {
-        Read::Event => {
-            out.kind = EVENT;
-        }
-        Read::Delete(length) => {
-            out.kind = DELETE;
+        Read::There(kind, length) => {
+            out.kind = kind;
             out.length = length;
         }
         Read::Refused(answer, column) => {

@@ -25,12 +25,12 @@ const RANGE: u8 = 7;
 
 const CHECK: u8 = 9;
 
-// The kinds of line read.
+// The kinds of record (docs/RECORDS.md), and none.
 pub const NONE: u8 = 0;
 
-pub const EVENT: u8 = 1;
+const EVENT: u8 = 1;
 
-pub const DELETE: u8 = 2;
+const DELETE: u8 = 2;
 
 // An answer with its column and, of a line that was read, its kind, the length of a delete's free text, and the record:
 // 19 numbers with a flag for each that is not missing, and the text bytes in the order of their columns.

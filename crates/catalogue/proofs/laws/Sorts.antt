@@ -9,18 +9,22 @@ use lib.ListN.{length, replicate, take, drop, getD}
 use lib.Seq.{getD-take, take-at}
 use Rattle.columns.specs.Answer.{pick, Answer as Read, ok, refusal}
 use Rattle.formats.specs.declared.cube.LineRead.{LineRead}
-use Rattle.formats.specs.Cube.{Message, readLine, lineOf}
+use Rattle.formats.specs.Cube.{Message, eventKind, readLine, lineOf}
 use Rattle.formats.specs.Judge.{isEventAnswer, isEventLine}
-use Rattle.formats.proofs.laws.CubeBack.{Sized, line-accepted}
+use Rattle.formats.proofs.laws.CubeBack.{line-accepted}
+use Rattle.formats.proofs.laws.CubeRecord.{was-event, was-delete, was-refused}
+use borrow.Author.Tests.{eq-eqb, ne-eqb}
 use Rattle.catalogue.specs.declared.take.Sort.{Sort}
 use Rattle.catalogue.specs.Line.{Kind, event, delete, blank, refused, kindOf, kind, refusedBy, refusedAt}
 use Rattle.catalogue.specs.Catalogue.{Taken, takeKind, step}
 use Rattle.catalogue.specs.Room.{isEvent, contents, encode, answerOf, columnOf, callOf, roomAfter}
 use Rattle.catalogue.specs.Plans.{sortIn, sortBy}
 use Rattle.catalogue.specs.Ordered.{Ordered}
+use Rattle.catalogue.proofs.laws.Tri.{eq?, eq, ne}
 use Rattle.catalogue.proofs.laws.View.{view, answer-is, room-is, column-is}
 use Rattle.columns.specs.Table.{over}
 use Rattle.formats.specs.Cube as cube
+use Rattle.formats.specs.declared.cube.Read.the-variants as line
 use Rattle.catalogue.specs.declared.take.Sort.the-variants as sort
 
 -- ---- the outcome of reading
@@ -30,16 +34,25 @@ names-version names t z n =
     let e : take 11 ((names ++ t) ++ drop (length (names ++ t)) z) ≡ names = ap (take 11) (append-assoc names t (drop (length (names ++ t)) z)) ∙ take-at names (t ++ drop (length (names ++ t)) z) 11 n in
     sym (getD-take 11 ((names ++ t) ++ drop (length (names ++ t)) z) 10 0 (omega arith)) ∙ ap (λ (x : List ℕ). getD x 10 0) e
 
-sort-answer : (a : Read Message) → ((m : Message) → a ≡ ok m → Sized m) → sortBy (lineOf a .read) (getD (lineOf a .text) 10 0) ≡ sortIn a
-sort-answer (ok (cube.event ns t)) f = refl
-sort-answer (ok (cube.delete names t)) f =
-    let s : Sized (cube.delete names t) = f (cube.delete names t) refl in
-    ap (λ (v : ℕ). pick (eqb v 32) sort.Blank sort.Delete) (names-version names t (replicate 78 0) (s .0))
-sort-answer (refusal n k) f = refl
+module _ (l : List ℕ) (r : LineRead) (e : r ≡ lineOf (readLine l)) where
+  -- a record that is there
+  pub sort-there : (k n : ℕ) → r .read ≡ line.There k n → sortBy k (getD (r .text) 10 0) ≡ sortIn (readLine l)
+  sort-there k n q =
+      elim (eq? k eventKind) [
+        | eq h ↦
+            let w = was-event (readLine l) r k n e q h in
+            let x : sortBy k (getD (r .text) 10 0) ≡ sort.Event = rw (eq-eqb k eventKind h) in
+            x ∙ sym (ap sortIn (w .is))
+        | ne h ↦
+            let w = was-delete (readLine l) r k n e q h in
+            let s = line-accepted l (cube.delete (w .names) (w .chars)) (w .is) .sized in
+            let v : getD (r .text) 10 0 ≡ getD (w .names) 10 0 = ap (λ (x : List ℕ). getD x 10 0) (w .text) ∙ names-version (w .names) (w .chars) (replicate 78 0) (s .0) in
+            let x : sortBy k (getD (r .text) 10 0) ≡ pick (eqb (getD (w .names) 10 0) 32) sort.Blank sort.Delete = rw (ne-eqb k eventKind h, v) in
+            x ∙ sym (ap sortIn (w .is))
+      ]
 
-pub sort-is : (l : List ℕ) (r : LineRead) → r ≡ lineOf (readLine l) → sortBy (r .read) (getD (r .text) 10 0) ≡ sortIn (readLine l)
-sort-is l r e =
-    ap (λ (x : LineRead). sortBy (x .read) (getD (x .text) 10 0)) e ∙ sort-answer (readLine l) (λ m q. line-accepted l m q .sized)
+  pub sort-refused : (n k : ℕ) → r .read ≡ line.Refused n k → sort.Refused n k ≡ sortIn (readLine l)
+  sort-refused n k q = sym (ap sortIn (was-refused (readLine l) r n k e q))
 
 -- ---- the kind that a sort says
 

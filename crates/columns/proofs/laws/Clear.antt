@@ -7,11 +7,19 @@ use native.Mathlib.Omega.{arith}
 use lib.ListN.{length, take, drop, replicate}
 use lib.Dec.{leb}
 use lib.IntN.{ℤ, pos, negsuc, natAbs}
-use borrow.Author.Tests.{le-leb, lt-leb, ne-eqb}
+use borrow.Author.Tests.{le-leb, lt-leb, ne-eqb, leb-true}
 use Rattle.columns.specs.Answer.{pick}
-use Rattle.columns.specs.Bytes.{isAllowed, inside, barred}
+use Rattle.columns.specs.Bytes.{isText, isBracket, isAllowed, inside, barred}
 use Rattle.columns.specs.Writing.{barredIn}
 use Rattle.columns.specs.Number.{digitsOf, plainDigits, minusOf, isNeg, intBytes, decBytes}
+use Rattle.columns.proofs.laws.Tests.{both-true}
+
+-- a byte that may stand in a column is a text byte
+pub allowed-bounds : (bars : Bool) (b : ℕ) → isAllowed bars b ≡ true → (32 ≤ b) × (b ≤ 126)
+allowed-bounds bars b e =
+    let p = both-true (isText b) (pick bars (pick (isBracket b) false true) true) e in
+    let q = both-true (leb 32 b) (leb b 126) (p .0) in
+    (leb-true 32 b (q .0), leb-true b 126 (q .1))
 
 pub data Clear (bars : Bool) : List ℕ → Type 0 where
   none : Clear bars []

@@ -14,7 +14,7 @@ use Rattle.columns.specs.Column.{Rec}
 use Rattle.columns.specs.Reading.{readColumns}
 use Rattle.columns.specs.Table.{over}
 use Rattle.formats.specs.Check.{checkCharacter}
-use Rattle.formats.specs.Cube.{eventColumns, delete, differs, asEvent, lowestBarred, readEvent, readDelete, readLine, lineOf, wrongLength, wrongType, wrongCheck, Message}
+use Rattle.formats.specs.Cube.{eventColumns, delete, eventKind, deleteKind, differs, asEvent, lowestBarred, readEvent, readDelete, readLine, lineOf, wrongLength, wrongType, wrongCheck, Message}
 use Rattle.columns.proofs.laws.Reader.{Whole}
 use Rattle.formats.specs.declared.cube.Read.the-variants as R
 
@@ -95,13 +95,13 @@ module _ (l : List ℕ) where
 -- ---- what the code returns
 
 -- a record that was read, in the arrays
-pub event-is : (a : Answer Rec) {f : List ℕ} {v : List ℤ} {t : List ℕ} → Whole a (replicate 19 0) f (replicate 19 (pos 0)) v (replicate 78 0) t → record { read = R.Event; flags = f; values = v; text = t } ≡ lineOf (asEvent a)
+pub event-is : (a : Answer Rec) {f : List ℕ} {v : List ℤ} {t : List ℕ} → Whole a (replicate 19 0) f (replicate 19 (pos 0)) v (replicate 78 0) t → record { read = R.There eventKind 0; flags = f; values = v; text = t } ≡ lineOf (asEvent a)
 event-is a w = rw (w .is, w .flags, w .values, w .chars)
 
 pub refused-is : (a : Answer Rec) (n k : ℕ) → a ≡ refusal n k → lineOf (refusal n k) ≡ lineOf (asEvent a)
 refused-is a n k e = rw e
 
-pub delete-is : (l : List ℕ) → 13 ≤ length l → record { read = R.Delete (length l - 13); flags = replicate 19 0; values = replicate 19 (pos 0); text = over (take (length l - 2) (drop 2 l)) (replicate 78 0) } ≡ lineOf (ok (delete (take 11 (drop 2 l)) (drop 13 l)))
+pub delete-is : (l : List ℕ) → 13 ≤ length l → record { read = R.There deleteKind (length l - 13); flags = replicate 19 0; values = replicate 19 (pos 0); text = over (take (length l - 2) (drop 2 l)) (replicate 78 0) } ≡ lineOf (ok (delete (take 11 (drop 2 l)) (drop 13 l)))
 delete-is l h =
     let a : take (length l - 2) (drop 2 l) ≡ drop 2 l = take-all (length l - 2) (drop 2 l) (omega (arith, length-drop 2 l)) in
     let b : take 11 (drop 2 l) ++ drop 13 l ≡ drop 2 l = ap (λ (x : List ℕ). take 11 (drop 2 l) ++ x) (sym (drop-drop 11 2 l)) ∙ take-append-drop 11 (drop 2 l) in

@@ -6,7 +6,7 @@ use Prim.Native.Nat.{ℕ, _+_, _≤_}
 use native.Mathlib.Omega.{arith}
 use lib.ListN.{length, take, drop, getD, length-drop, length-take, take-append-drop}
 use lib.Dec.{ltb}
-use lib.Seq.{length-take-le, take-take, take-add, drop-drop}
+use lib.Seq.{length-take-le, take-take, take-add, drop-drop, getD-take, getD-drop}
 use borrow.Author.Tests.{ltb-false}
 use Rattle.columns.specs.Answer.{pick, Answer, ok, refusal, barredByte}
 use Rattle.columns.specs.Bytes.{barred}
@@ -78,3 +78,9 @@ pub line-fields : (l : List ℕ) (m : Message) → readLine l ≡ ok m → Field
 unfolding readLine
 line-fields l m e =
     type-fields (isType 69 32 l) (isType 68 69 l) l m (passed (ltb (length l) 2) wrongLength 0 (pick (isType 69 32 l) (readEvent l) (pick (isType 68 69 l) (readDelete l) (refusal wrongType 1))) m e .1)
+
+-- the version of a delete stands in column 13
+pub delete-version : (l names t : List ℕ) → readLine l ≡ ok (delete names t) → getD names 10 0 ≡ getD l 12 0
+delete-version l names t e =
+    let p : names ≡ take 11 (drop 2 l) = line-fields l (delete names t) e .shape in
+    ap (λ (x : List ℕ). getD x 10 0) p ∙ getD-take 11 (drop 2 l) 10 0 (omega arith) ∙ getD-drop 2 l 10 0

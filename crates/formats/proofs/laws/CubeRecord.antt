@@ -15,9 +15,10 @@ use Rattle.columns.specs.Table.{flagsOf, valuesOf, slotsOf, over, placed, Wrote
 use Rattle.columns.proofs.laws.Answers.{over-whole, done-of, refused-of}
 use Rattle.columns.proofs.laws.Places.{placed-placed}
 use Rattle.columns.proofs.laws.Table.{flags-length, values-length}
+use Rattle.formats.specs.declared.cube.Read.{Read}
 use Rattle.formats.specs.declared.cube.LineRead.{LineRead}
 use Rattle.formats.specs.declared.Reply.{Reply}
-use Rattle.formats.specs.Cube.{Message, event, delete, readLine, lineOf, writeMessage}
+use Rattle.formats.specs.Cube.{Message, event, delete, eventKind, deleteKind, readLine, lineOf, writeMessage}
 use Rattle.formats.specs.Record.{packed, slotsIn, sameBytes, replied, Replied}
 use Rattle.formats.specs.CubeRecord.{filled, recordOf, eventIn, deleteIn, messageIn, readRecord, recordAnswer, readInto, writeFrom}
 use Rattle.formats.proofs.laws.Record.{numbers-length, packed-length}
@@ -61,9 +62,9 @@ replied-as a b r from to e w = rw (← e) w
 
 -- ---- the bytes of a delete
 
-pub delete-filled : (n : ℕ) (s : List ℕ) → length s ≤ 266 → placed 2 s (set (set (replicate 268 0) 0 2) 1 n) ≡ filled (2 ∷ n ∷ s)
+pub delete-filled : (n : ℕ) (s : List ℕ) → length s ≤ 266 → placed 2 s (set (set (replicate 268 0) 0 deleteKind) 1 n) ≡ filled (deleteKind ∷ n ∷ s)
 delete-filled n s h =
-    ap (placed 2 s) (two-placed (replicate 268 0) 2 n (omega arith)) ∙ placed-placed 0 2 (2 ∷ n ∷ []) s (replicate 268 0) refl (omega arith)
+    ap (placed 2 s) (two-placed (replicate 268 0) deleteKind n (omega arith)) ∙ placed-placed 0 2 (deleteKind ∷ n ∷ []) s (replicate 268 0) refl (omega arith)
 
 -- ---- a line read into a record
 
@@ -85,11 +86,18 @@ pub record WasEvent (a : Answer Message) (r : LineRead) : Type 0 where
   pub values : r .values ≡ over (valuesOf numbers) (replicate 19 (pos 0))
   pub text : r .text ≡ over chars (replicate 78 0)
 
-pub was-event : (a : Answer Message) (r : LineRead) → r ≡ lineOf a → r .read ≡ R.Event → WasEvent a r
-was-event (ok (event ns t)) r e q =
+read-is : (a : Answer Message) (r : LineRead) → r ≡ lineOf a → (x : Read) → r .read ≡ x → lineOf a .read ≡ x
+read-is a r e x q = sym (ap (λ (u : LineRead). u .read) e) ∙ q
+
+pub was-event : (a : Answer Message) (r : LineRead) (k n : ℕ) → r ≡ lineOf a → r .read ≡ R.There k n → k ≡ eventKind → WasEvent a r
+was-event (ok (event ns t)) r k n e q h =
     record { numbers = ns; chars = t; is = refl; flags = ap (λ (x : LineRead). x .flags) e; values = ap (λ (x : LineRead). x .values) e; text = ap (λ (x : LineRead). x .text) e }
-was-event (ok (delete names t)) r e q = let p : R.Delete (length t) ≡ R.Event = sym (ap (λ (x : LineRead). x .read) e) ∙ q in let z : _≡_ {A = ℕ} 0 1 = cc in let y : ⊥ = omega arith in absurd y
-was-event (refusal n k) r e q = let p : R.Refused n k ≡ R.Event = sym (ap (λ (x : LineRead). x .read) e) ∙ q in let z : _≡_ {A = ℕ} 0 1 = cc in let y : ⊥ = omega arith in absurd y
+was-event (ok (delete names t)) r k n e q h =
+    let p : R.There deleteKind (length t) ≡ R.There k n = read-is (ok (delete names t)) r e (R.There k n) q in
+    let z : deleteKind ≡ k = cc in
+    let y : ⊥ = omega arith in
+    absurd y
+was-event (refusal m j) r k n e q h = let p : R.Refused m j ≡ R.There k n = read-is (refusal m j) r e (R.There k n) q in let z : _≡_ {A = ℕ} 0 1 = cc in let y : ⊥ = omega arith in absurd y
 
 pub record WasDelete (a : Answer Message) (r : LineRead) (n : ℕ) : Type 0 where
   pub names : List ℕ
@@ -98,17 +106,21 @@ pub record WasDelete (a : Answer Message) (r : LineRead) (n : ℕ) : Type 0 wher
   pub size : length chars ≡ n
   pub text : r .text ≡ over (names ++ chars) (replicate 78 0)
 
-pub was-delete : (a : Answer Message) (r : LineRead) (n : ℕ) → r ≡ lineOf a → r .read ≡ R.Delete n → WasDelete a r n
-was-delete (ok (event ns t)) r n e q = let p : R.Event ≡ R.Delete n = sym (ap (λ (x : LineRead). x .read) e) ∙ q in let z : _≡_ {A = ℕ} 0 1 = cc in let y : ⊥ = omega arith in absurd y
-was-delete (ok (delete names t)) r n e q =
-    let p : R.Delete (length t) ≡ R.Delete n = sym (ap (λ (x : LineRead). x .read) e) ∙ q in
+-- a record that is there and is no event is a delete
+pub was-delete : (a : Answer Message) (r : LineRead) (k n : ℕ) → r ≡ lineOf a → r .read ≡ R.There k n → (k ≡ eventKind → ⊥) → WasDelete a r n
+was-delete (ok (event ns t)) r k n e q h =
+    let p : R.There eventKind 0 ≡ R.There k n = read-is (ok (event ns t)) r e (R.There k n) q in
+    let z : k ≡ eventKind = cc in
+    absurd (h z)
+was-delete (ok (delete names t)) r k n e q h =
+    let p : R.There deleteKind (length t) ≡ R.There k n = read-is (ok (delete names t)) r e (R.There k n) q in
     record { names = names; chars = t; is = refl; size = cc; text = ap (λ (x : LineRead). x .text) e }
-was-delete (refusal m k) r n e q = let p : R.Refused m k ≡ R.Delete n = sym (ap (λ (x : LineRead). x .read) e) ∙ q in let z : _≡_ {A = ℕ} 0 1 = cc in let y : ⊥ = omega arith in absurd y
+was-delete (refusal m j) r k n e q h = let p : R.Refused m j ≡ R.There k n = read-is (refusal m j) r e (R.There k n) q in let z : _≡_ {A = ℕ} 0 1 = cc in let y : ⊥ = omega arith in absurd y
 
 pub was-refused : (a : Answer Message) (r : LineRead) (n k : ℕ) → r ≡ lineOf a → r .read ≡ R.Refused n k → a ≡ refusal n k
-was-refused (ok (event ns t)) r n k e q = let p : R.Event ≡ R.Refused n k = sym (ap (λ (x : LineRead). x .read) e) ∙ q in let z : _≡_ {A = ℕ} 0 1 = cc in let y : ⊥ = omega arith in absurd y
-was-refused (ok (delete names t)) r n k e q = let p : R.Delete (length t) ≡ R.Refused n k = sym (ap (λ (x : LineRead). x .read) e) ∙ q in let z : _≡_ {A = ℕ} 0 1 = cc in let y : ⊥ = omega arith in absurd y
-was-refused (refusal m j) r n k e q = let p : R.Refused m j ≡ R.Refused n k = sym (ap (λ (x : LineRead). x .read) e) ∙ q in cc
+was-refused (ok (event ns t)) r n k e q = let p : R.There eventKind 0 ≡ R.Refused n k = read-is (ok (event ns t)) r e (R.Refused n k) q in let z : _≡_ {A = ℕ} 0 1 = cc in let y : ⊥ = omega arith in absurd y
+was-refused (ok (delete names t)) r n k e q = let p : R.There deleteKind (length t) ≡ R.Refused n k = read-is (ok (delete names t)) r e (R.Refused n k) q in let z : _≡_ {A = ℕ} 0 1 = cc in let y : ⊥ = omega arith in absurd y
+was-refused (refusal m j) r n k e q = let p : R.Refused m j ≡ R.Refused n k = read-is (refusal m j) r e (R.Refused n k) q in cc
 
 over-length : {A : Type 0} (xs l : List A) → length xs ≤ length l → length (over xs l) ≡ length l
 over-length xs l h = length-append xs (drop (length xs) l) ∙ omega (arith, length-drop (length xs) l)
@@ -120,14 +132,14 @@ text-of (ok (delete names t)) f =
     over-length (names ++ t) (replicate 78 0) (omega (arith, length-append names t, s .0, s .1))
 text-of (refusal n k) f = refl
 
-packed-same : {f g : List ℕ} {v w : List ℤ} {s t : List ℕ} → f ≡ g → v ≡ w → s ≡ t → _≡_ {A = Answer (List ℕ)} (ok (filled (packed 1 g w t))) (ok (filled (packed 1 f v s)))
+packed-same : {f g : List ℕ} {v w : List ℤ} {s t : List ℕ} → f ≡ g → v ≡ w → s ≡ t → _≡_ {A = Answer (List ℕ)} (ok (filled (packed eventKind g w t))) (ok (filled (packed eventKind f v s)))
 packed-same p q r = rw (p, q, r)
 
 -- the bytes that the code makes of an outcome
 module _ (l : List ℕ) (r : LineRead) (e : r ≡ lineOf (readLine l)) where
-  pub event-record : r .read ≡ R.Event → recordAnswer (readLine l) ≡ ok (filled (packed 1 (r .flags) (r .values) (take 13 (r .text))))
-  event-record q =
-      let w = was-event (readLine l) r e q in
+  pub event-record : (k n : ℕ) → r .read ≡ R.There k n → k ≡ eventKind → recordAnswer (readLine l) ≡ ok (filled (packed eventKind (r .flags) (r .values) (take 13 (r .text))))
+  event-record k n q h =
+      let w = was-event (readLine l) r k n e q h in
       let s = line-accepted l (event (w .numbers) (w .chars)) (w .is) .sized in
       let f : r .flags ≡ flagsOf (w .numbers) = w .flags ∙ over-whole (flagsOf (w .numbers)) (replicate 19 0) (flags-length (w .numbers) ∙ s .0) in
       let v : r .values ≡ valuesOf (w .numbers) = w .values ∙ over-whole (valuesOf (w .numbers)) (replicate 19 (pos 0)) (values-length (w .numbers) ∙ s .0) in
@@ -137,23 +149,23 @@ module _ (l : List ℕ) (r : LineRead) (e : r ≡ lineOf (readLine l)) where
   pub text-size : length (r .text) ≡ 78
   text-size = ap (λ (x : LineRead). length (x .text)) e ∙ text-of (readLine l) (λ m q. line-accepted l m q .sized)
 
-  pub event-fits : r .read ≡ R.Event → length (packed 1 (r .flags) (r .values) (take 13 (r .text))) ≤ 268
-  event-fits q =
-      let w = was-event (readLine l) r e q in
+  pub event-fits : (k n : ℕ) → r .read ≡ R.There k n → k ≡ eventKind → length (packed eventKind (r .flags) (r .values) (take 13 (r .text))) ≤ 268
+  event-fits k n q h =
+      let w = was-event (readLine l) r k n e q h in
       let s = line-accepted l (event (w .numbers) (w .chars)) (w .is) .sized in
       let f : length (r .flags) ≡ 19 = ap length (w .flags ∙ over-whole (flagsOf (w .numbers)) (replicate 19 0) (flags-length (w .numbers) ∙ s .0)) ∙ flags-length (w .numbers) ∙ s .0 in
       let v : length (r .values) ≡ 19 = ap length (w .values ∙ over-whole (valuesOf (w .numbers)) (replicate 19 (pos 0)) (values-length (w .numbers) ∙ s .0)) ∙ values-length (w .numbers) ∙ s .0 in
-      omega (arith, packed-length 1 (r .flags) (r .values) (take 13 (r .text)), length-take 13 (r .text), f, v)
+      omega (arith, packed-length eventKind (r .flags) (r .values) (take 13 (r .text)), length-take 13 (r .text), f, v)
 
-  pub delete-low : (n : ℕ) → r .read ≡ R.Delete n → n ≤ 67
-  delete-low n q =
-      let w = was-delete (readLine l) r n e q in
+  pub delete-low : (k n : ℕ) → r .read ≡ R.There k n → (k ≡ eventKind → ⊥) → n ≤ 67
+  delete-low k n q h =
+      let w = was-delete (readLine l) r k n e q h in
       let s = line-accepted l (delete (w .names) (w .chars)) (w .is) .sized in
       omega (arith, s .1, w .size)
 
-  pub delete-record : (n : ℕ) → r .read ≡ R.Delete n → recordAnswer (readLine l) ≡ ok (filled (2 ∷ n ∷ take (11 + n) (r .text)))
-  delete-record n q =
-      let w = was-delete (readLine l) r n e q in
+  pub delete-record : (k n : ℕ) → r .read ≡ R.There k n → (k ≡ eventKind → ⊥) → recordAnswer (readLine l) ≡ ok (filled (deleteKind ∷ n ∷ take (11 + n) (r .text)))
+  delete-record k n q h =
+      let w = was-delete (readLine l) r k n e q h in
       let s = line-accepted l (delete (w .names) (w .chars)) (w .is) .sized in
       let m : length (w .names ++ w .chars) ≡ 11 + n = length-append (w .names) (w .chars) ∙ omega (arith, s .0, w .size) in
       let t : take (11 + n) (r .text) ≡ w .names ++ w .chars = ap (take (11 + n)) (w .text) ∙ take-at (w .names ++ w .chars) _ (11 + n) m in
@@ -168,17 +180,18 @@ module _ (l out : List ℕ) (h : 268 ≤ length out) (r : LineRead) (e : r ≡ l
       replied-refused _ out n k (into-read l (length out) h ∙ ap recordAnswer (was-refused (readLine l) r n k e q))
 
   -- the record that the code made, copied out
-  pub read-event : r .read ≡ R.Event → (bytes to : List ℕ) → bytes ≡ filled (packed 1 (r .flags) (r .values) (take 13 (r .text))) → to ≡ over bytes out → Replied (readInto l (length out)) (P.Done 268) out to
-  read-event q bytes to b f =
-      let w = event-record l r e q in
-      replied-done _ out bytes to 268 (into-read l (length out) h ∙ w ∙ ap ok (sym b)) (ap length b ∙ filled-length (packed 1 (r .flags) (r .values) (take 13 (r .text))) (event-fits l r e q)) f
+  module _ (k n : ℕ) (q : r .read ≡ R.There k n) where
+    pub read-event : k ≡ eventKind → (bytes to : List ℕ) → bytes ≡ filled (packed eventKind (r .flags) (r .values) (take 13 (r .text))) → to ≡ over bytes out → Replied (readInto l (length out)) (P.Done 268) out to
+    read-event i bytes to b f =
+        let w = event-record l r e k n q i in
+        replied-done _ out bytes to 268 (into-read l (length out) h ∙ w ∙ ap ok (sym b)) (ap length b ∙ filled-length (packed eventKind (r .flags) (r .values) (take 13 (r .text))) (event-fits l r e k n q i)) f
 
-  pub read-delete : (n : ℕ) → r .read ≡ R.Delete n → (bytes to : List ℕ) → bytes ≡ filled (2 ∷ n ∷ take (11 + n - 0) (r .text)) → to ≡ over bytes out → Replied (readInto l (length out)) (P.Done 268) out to
-  read-delete n q bytes to d f =
-      let z : 11 + n - 0 ≡ 11 + n = omega arith in
-      let b : bytes ≡ filled (2 ∷ n ∷ take (11 + n) (r .text)) = d ∙ rw z in
-      let w = delete-record l r e n q in
-      replied-done _ out bytes to 268 (into-read l (length out) h ∙ w ∙ ap ok (sym b)) (ap length b ∙ filled-length (2 ∷ n ∷ take (11 + n) (r .text)) (omega (arith, length-take (11 + n) (r .text), delete-low l r e n q))) f
+    pub read-delete : (k ≡ eventKind → ⊥) → (bytes to : List ℕ) → bytes ≡ filled (deleteKind ∷ n ∷ take (11 + n - 0) (r .text)) → to ≡ over bytes out → Replied (readInto l (length out)) (P.Done 268) out to
+    read-delete i bytes to d f =
+        let z : 11 + n - 0 ≡ 11 + n = omega arith in
+        let b : bytes ≡ filled (deleteKind ∷ n ∷ take (11 + n) (r .text)) = d ∙ rw z in
+        let w = delete-record l r e k n q i in
+        replied-done _ out bytes to 268 (into-read l (length out) h ∙ w ∙ ap ok (sym b)) (ap length b ∙ filled-length (deleteKind ∷ n ∷ take (11 + n) (r .text)) (omega (arith, length-take (11 + n) (r .text), delete-low l r e k n q i))) f
 
 -- ---- a line written from a record
 
@@ -209,11 +222,11 @@ module _ (r : List ℕ) (room : ℕ) (n : length r ≡ 268) (m : Message) (e : m
   unfolding writeFrom
   from-same s = let q : readRecord r ≡ ok m = record-is r n m e ∙ rw s in rw q
 
-pub event-named : (r : List ℕ) → getD r 0 0 ≡ 1 → messageIn r ≡ eventIn r
+pub event-named : (r : List ℕ) → getD r 0 0 ≡ eventKind → messageIn r ≡ eventIn r
 event-named r e = rw e
 
-pub delete-named : (r : List ℕ) → (getD r 0 0 ≡ 1 → ⊥) → messageIn r ≡ deleteIn r
-delete-named r n = rw (ne-eqb (getD r 0 0) 1 n)
+pub delete-named : (r : List ℕ) → (getD r 0 0 ≡ eventKind → ⊥) → messageIn r ≡ deleteIn r
+delete-named r n = rw (ne-eqb (getD r 0 0) eventKind n)
 
 pub slots-back : (ns : List Slot) → slotsOf (flagsOf ns) (valuesOf ns) ≡ ns
 unfolding slotsOf flagsOf valuesOf
@@ -232,13 +245,13 @@ module _ (r : List ℕ) (n : length r ≡ 268) (flags : List ℕ) (values : List
   chars-are : chars ≡ take 13 (drop 172 r)
   chars-are = t ∙ over-whole (take 13 (drop 172 r)) (replicate 13 0) (length-take-le 13 (drop 172 r) (omega (arith, length-drop 172 r)))
 
-  pub event-took : filled (packed 1 flags values chars) ≡ recordOf (eventIn r)
+  pub event-took : filled (packed eventKind flags values chars) ≡ recordOf (eventIn r)
   event-took = rw (f, v, numbers-are, chars-are)
 
   pub event-numbers : slotsOf flags values ≡ numbers
   event-numbers = rw (f, v, numbers-are) (slots-back numbers)
 
-  module _ (k : getD r 0 0 ≡ 1) (out bytes : List ℕ) (b : bytes ≡ filled (packed 1 flags values chars)) (same : Bool) (s : same ≡ sameBytes bytes r) where
+  module _ (k : getD r 0 0 ≡ 1) (out bytes : List ℕ) (b : bytes ≡ filled (packed eventKind flags values chars)) (same : Bool) (s : same ≡ sameBytes bytes r) where
     named : sameBytes (recordOf (eventIn r)) r ≡ same
     named = ap (λ (x : List ℕ). sameBytes x r) (sym (b ∙ event-took)) ∙ sym s
 
@@ -253,7 +266,7 @@ module _ (r : List ℕ) (n : length r ≡ 268) (flags : List ℕ) (values : List
         replied-as _ _ _ out to e (wrote-replied w 80 (λ ys p. event-size (slotsOf flags values) chars ys (length out) m c p))
 
 -- what the code took out of a delete's record
-module _ (r : List ℕ) (n : length r ≡ 268) (k : getD r 0 0 ≡ 1 → ⊥) (len : ℕ) (j : getD r 1 0 ≡ len) (h : len < 256) where
+module _ (r : List ℕ) (n : length r ≡ 268) (k : getD r 0 0 ≡ eventKind → ⊥) (len : ℕ) (j : getD r 1 0 ≡ len) (h : len < 256) where
   abbrev names : List ℕ
   names = take 11 (drop 2 r)
 
@@ -274,10 +287,10 @@ module _ (r : List ℕ) (n : length r ≡ 268) (k : getD r 0 0 ≡ 1 → ⊥) (l
       let z : 13 + len - 2 ≡ 11 + len = omega arith in
       rw z (take-add 11 len (drop 2 r) ∙ rw (drop-drop 11 2 r))
 
-  module _ (out bytes : List ℕ) (b : bytes ≡ filled (2 ∷ len ∷ take (13 + len - 2) (drop 2 r))) (same : Bool) (s : same ≡ sameBytes bytes r) where
+  module _ (out bytes : List ℕ) (b : bytes ≡ filled (deleteKind ∷ len ∷ take (13 + len - 2) (drop 2 r))) (same : Bool) (s : same ≡ sameBytes bytes r) where
     delete-is-named : sameBytes (recordOf (deleteIn r)) r ≡ same
     delete-is-named =
-        let f : filled (2 ∷ len ∷ take (13 + len - 2) (drop 2 r)) ≡ recordOf (delete names chars) = rw (both-parts, chars-length) in
+        let f : filled (deleteKind ∷ len ∷ take (13 + len - 2) (drop 2 r)) ≡ recordOf (delete names chars) = rw (both-parts, chars-length) in
         let e : bytes ≡ recordOf (deleteIn r) = b ∙ f ∙ ap recordOf (sym delete-is-in) in
         ap (λ (x : List ℕ). sameBytes x r) (sym e) ∙ sym s
 

@@ -17,7 +17,7 @@ use Rattle.columns.specs.Writing.{writeColumns}
 use Rattle.columns.proofs.laws.Answers.{passed, held}
 use Rattle.columns.proofs.laws.Bounds.{columnOf, pick-bound, barred-bound, read-bound, write-bound}
 use Rattle.formats.specs.Check.{checkCharacter}
-use Rattle.formats.specs.Cube.{Message, event, delete, eventColumns, unless, differs, asEvent, lowestBarred, isType, readEvent, readDelete, readLine, sealedAnswer, writeMessage}
+use Rattle.formats.specs.Cube.{Message, event, delete, eventKind, deleteKind, eventColumns, unless, differs, asEvent, lowestBarred, isType, readEvent, readDelete, readLine, sealedAnswer, writeMessage}
 use Rattle.formats.specs.Record.{packed, sameBytes, slotsIn}
 use Rattle.columns.specs.Table.{flagsOf, valuesOf}
 use Rattle.columns.proofs.laws.Table.{flags-length, values-length}
@@ -156,8 +156,8 @@ from-bound r room = by-record (readRecord r) refl
 
 record-size : (m : Message) → Sized m → length (recordOf m) ≡ 268
 record-size (event ns t) s =
-    filled-length (packed 1 (flagsOf ns) (valuesOf ns) t) (omega (arith, packed-length 1 (flagsOf ns) (valuesOf ns) t, flags-length ns, values-length ns, s .0, s .1))
-record-size (delete names t) s = filled-length (2 ∷ length t ∷ (names ++ t)) (omega (arith, length-append names t, s .0, s .1))
+    filled-length (packed eventKind (flagsOf ns) (valuesOf ns) t) (omega (arith, packed-length eventKind (flagsOf ns) (valuesOf ns) t, flags-length ns, values-length ns, s .0, s .1))
+record-size (delete names t) s = filled-length (deleteKind ∷ length t ∷ (names ++ t)) (omega (arith, length-append names t, s .0, s .1))
 
 -- the bytes written, where there are some
 abbrev pub sizeOf : Answer (List ℕ) → ℕ

@@ -27,6 +27,11 @@ pick-not : (t : Bool) (a b : Answer Message) → isEventAnswer a ≡ false → i
 pick-not true a b p q = p
 pick-not false a b p q = q
 
+-- the judge's answer is that of the line reader
+pub event-line-is : (l : List ℕ) → isEventLine l ≡ isEventAnswer (readLine l)
+unfolding isEventLine
+event-line-is l = refl
+
 module _ (l : List ℕ) where
   delete-not : isEventAnswer (readDelete l) ≡ false
   unfolding readDelete

@@ -7,7 +7,9 @@ use Rattle.formats.proofs.cube_record.read_into.Statement.{statement}
 use Rattle.formats.proofs.cube_record.read_into.Tie as tie
 
 returns : tie.Need-returns
-returns c = replied-refused _ (c .before .before .before .args .out .now) tooShort 0 (into-short (c .before .before .before .args .line .now) (length (c .before .before .before .args .out .now)) (c .if1 .taken))
+returns c =
+    let a = c .before .before .before .args in
+    replied-refused _ (a .out .now) tooShort 0 (into-short (a .line .now) (length (a .out .now)) (c .if1 .taken))
 
 read-line-requires : tie.Need-read-line-requires
 read-line-requires c κs = search needs
@@ -15,8 +17,8 @@ read-line-requires c κs = search needs
 enum-known-read : tie.Need-enum-known-read
 enum-known-read c = search needs
 
-enum-told : tie.Need-enum-told
-enum-told c = search needs
+enum-known-read-2 : tie.Need-enum-known-read-2
+enum-known-read-2 c = search needs
 
 sub-event-bytes : tie.Need-sub-event-bytes
 sub-event-bytes c = search needs
@@ -25,10 +27,14 @@ part-event-bytes-start : tie.Need-part-event-bytes-start
 part-event-bytes-start c = search needs
 
 part-event-bytes-end : tie.Need-part-event-bytes-end
-part-event-bytes-end c = omega (arith, text-size (c .before .before .before .before .before .before .before .before .before .before .before .before .args .line .now) (c .before .before .before .before .before .before .before .before .read-line .result) (c .before .before .before .before .before .before .before .before .read-line .ensures))
+part-event-bytes-end c =
+    let g = c .before .before .before .before .before .before .before .before .before .before in
+    omega (arith, text-size (g .before .before .before .before .args .line .now) (g .read-line .result) (g .read-line .ensures))
 
 event-bytes-requires : tie.Need-event-bytes-requires
-event-bytes-requires c κs = search (needs, text-size (c .before .before .before .before .before .before .before .before .before .before .before .before .before .args .line .now) (c .before .before .before .before .before .before .before .before .before .read-line .result) (c .before .before .before .before .before .before .before .before .before .read-line .ensures))
+event-bytes-requires c κs =
+    let g = c .before .before .before .before .before .before .before .before .before .before .before in
+    search (needs, text-size (g .before .before .before .before .args .line .now) (g .read-line .result) (g .read-line .ensures))
 
 slice-aggregate-copy : tie.Need-slice-aggregate-copy
 slice-aggregate-copy c = search needs
@@ -36,14 +42,23 @@ slice-aggregate-copy c = search needs
 copy-requires : tie.Need-copy-requires
 copy-requires c κs = search needs
 
-enum-known-read-2 : tie.Need-enum-known-read-2
-enum-known-read-2 c = search needs
+same-length : tie.Need-same-length
+same-length c = search needs
+
+returns-2 : tie.Need-returns-2
+returns-2 c =
+    let g = c .before .before .before .before .before .before .before .before .before .before .before .before .before .before .before .before .before in
+    read-event (g .before .before .before .before .args .line .now) (g .before .before .before .before .args .out .now) (g .before .if1 .left) (g .read-line .result) (g .read-line .ensures) _ _ (c .before .before .before .before .before .before .before .before .before .before .before .before .read2 .given .1) (c .before .before .before .before .before .before .before .before .before .before .if2 .taken) _ _ (c .before .before .before .before .before .event-bytes .ensures) (c .before .before .copy .ensures)
 
 add-end : tie.Need-add-end
-add-end c = omega (arith, delete-low (c .before .before .before .before .before .before .before .before .before .before .args .line .now) (c .before .before .before .before .before .before .read-line .result) (c .before .before .before .before .before .before .read-line .ensures) _ (c .before .read2 .given .1))
+add-end c =
+    let g = c .before .before .before .before .before .before .before in
+    omega (arith, delete-low (g .before .before .before .before .args .line .now) (g .read-line .result) (g .read-line .ensures) _ _ (c .before .before .read2 .given .1) (c .if2 .left))
 
 cast-delete-bytes : tie.Need-cast-delete-bytes
-cast-delete-bytes c = omega (arith, delete-low (c .before .before .before .before .before .before .before .before .before .before .args .line .now) (c .before .before .before .before .before .before .read-line .result) (c .before .before .before .before .before .before .read-line .ensures) _ (c .before .read2 .given .1))
+cast-delete-bytes c =
+    let g = c .before .before .before .before .before .before .before in
+    omega (arith, delete-low (g .before .before .before .before .args .line .now) (g .read-line .result) (g .read-line .ensures) _ _ (c .before .before .read2 .given .1) (c .if2 .left))
 
 sub-delete-bytes : tie.Need-sub-delete-bytes
 sub-delete-bytes c = search needs
@@ -52,10 +67,14 @@ part-delete-bytes-start : tie.Need-part-delete-bytes-start
 part-delete-bytes-start c = search needs
 
 part-delete-bytes-end : tie.Need-part-delete-bytes-end
-part-delete-bytes-end c = omega (arith, text-size (c .before .before .before .before .before .before .before .before .before .before .before .args .line .now) (c .before .before .before .before .before .before .before .read-line .result) (c .before .before .before .before .before .before .before .read-line .ensures), delete-low (c .before .before .before .before .before .before .before .before .before .before .before .args .line .now) (c .before .before .before .before .before .before .before .read-line .result) (c .before .before .before .before .before .before .before .read-line .ensures) _ (c .before .before .read2 .given .1))
+part-delete-bytes-end c =
+    let g = c .before .before .before .before .before .before .before .before in
+    omega (arith, text-size (g .before .before .before .before .args .line .now) (g .read-line .result) (g .read-line .ensures), delete-low (g .before .before .before .before .args .line .now) (g .read-line .result) (g .read-line .ensures) _ _ (c .before .before .before .read2 .given .1) (c .before .if2 .left))
 
 delete-bytes-requires : tie.Need-delete-bytes-requires
-delete-bytes-requires c κs = search (needs, text-size (c .before .before .before .before .before .before .before .before .before .before .before .before .args .line .now) (c .before .before .before .before .before .before .before .before .read-line .result) (c .before .before .before .before .before .before .before .before .read-line .ensures), delete-low (c .before .before .before .before .before .before .before .before .before .before .before .before .args .line .now) (c .before .before .before .before .before .before .before .before .read-line .result) (c .before .before .before .before .before .before .before .before .read-line .ensures) _ (c .before .before .before .read2 .given .1))
+delete-bytes-requires c κs =
+    let g = c .before .before .before .before .before .before .before .before .before in
+    search (needs, text-size (g .before .before .before .before .args .line .now) (g .read-line .result) (g .read-line .ensures), delete-low (g .before .before .before .before .args .line .now) (g .read-line .result) (g .read-line .ensures) _ _ (c .before .before .before .before .read2 .given .1) (c .before .before .if2 .left))
 
 slice-aggregate-copy-2 : tie.Need-slice-aggregate-copy-2
 slice-aggregate-copy-2 c = search needs
@@ -63,26 +82,18 @@ slice-aggregate-copy-2 c = search needs
 copy-requires-2 : tie.Need-copy-requires-2
 copy-requires-2 c κs = search needs
 
-returns-2 : tie.Need-returns-2
-returns-2 c =
-    let a = c .before .before .before .before .before .before .before .before .before .before .args in
-    read-refused (a .line .now) (a .out .now) (c .before .before .before .before .before .before .before .if1 .left) (c .before .before .before .before .before .before .read-line .result) (c .before .before .before .before .before .before .read-line .ensures) _ _ (c .before .read .given .1)
-
-same-length : tie.Need-same-length
-same-length c = search needs
-
 returns-3 : tie.Need-returns-3
 returns-3 c =
-    let a = c .before .before .before .before .before .before .before .before .before .before .before .before .before .before .before .before .before .before .before .args in
-    read-event (a .line .now) (a .out .now) (c .before .before .before .before .before .before .before .before .before .before .before .before .before .before .before .before .if1 .left) (c .before .before .before .before .before .before .before .before .before .before .before .before .before .before .before .read-line .result) (c .before .before .before .before .before .before .before .before .before .before .before .before .before .before .before .read-line .ensures) (c .before .before .before .before .before .before .before .before .before .before .enum-told .given .1) _ _ (c .before .before .before .before .before .event-bytes .ensures) (c .before .before .copy .ensures)
+    let g = c .before .before .before .before .before .before in
+    read-refused (g .before .before .before .before .args .line .now) (g .before .before .before .before .args .out .now) (g .before .if1 .left) (g .read-line .result) (g .read-line .ensures) _ _ (c .before .read .given .1)
 
 same-length-2 : tie.Need-same-length-2
 same-length-2 c = search needs
 
 returns-4 : tie.Need-returns-4
 returns-4 c =
-    let a = c .before .before .before .before .before .before .before .before .before .before .before .before .before .before .before .before .before .before .args in
-    read-delete (a .line .now) (a .out .now) (c .before .before .before .before .before .before .before .before .before .before .before .before .before .before .before .if1 .left) (c .before .before .before .before .before .before .before .before .before .before .before .before .before .before .read-line .result) (c .before .before .before .before .before .before .before .before .before .before .before .before .before .before .read-line .ensures) _ (c .before .before .before .before .before .before .before .before .before .read2 .given .1) _ _ (c .before .before .before .before .before .delete-bytes .ensures) (c .before .before .copy2 .ensures)
+    let g = c .before .before .before .before .before .before .before .before .before .before .before .before .before .before .before in
+    read-delete (g .before .before .before .before .args .line .now) (g .before .before .before .before .args .out .now) (g .before .if1 .left) (g .read-line .result) (g .read-line .ensures) _ _ (c .before .before .before .before .before .before .before .before .before .before .read2 .given .1) (c .before .before .before .before .before .before .before .before .if2 .left) _ _ (c .before .before .before .before .before .delete-bytes .ensures) (c .before .before .copy2 .ensures)
 
 pub read-into-spec : {M : Type 1} → statement M
 read-into-spec =
@@ -91,14 +102,15 @@ read-into-spec =
     returns
     read-line-requires
     enum-known-read
-    enum-told
+    enum-known-read-2
     sub-event-bytes
     part-event-bytes-start
     part-event-bytes-end
     event-bytes-requires
     slice-aggregate-copy
     copy-requires
-    enum-known-read-2
+    same-length
+    returns-2
     add-end
     cast-delete-bytes
     sub-delete-bytes
@@ -107,8 +119,6 @@ read-into-spec =
     delete-bytes-requires
     slice-aggregate-copy-2
     copy-requires-2
-    returns-2
-    same-length
     returns-3
     same-length-2
     returns-4)
