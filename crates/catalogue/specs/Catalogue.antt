@@ -1,14 +1,11 @@
--- The catalogue, and how a line is taken into it. Document 01, "The catalogue".
-use Rattle.columns.specs.Answer.{pick}
-use Rattle.formats.specs.Record.{sameBytes}
+-- The catalogue: its sections, and the pairs that it names. Document 01, "The catalogue".
 use Prim.Native.Nat.{ℕ, _+_}
 use mathlib.Core.List.{List, [], _∷_}
-use mathlib.Core.Option.{Option, none, some}
-use lib.Dec.{ltb, leb}
-use lib.ListN.{length}
-use Rattle.formats.specs.Cube.{readLine}
-use Rattle.catalogue.specs.Line.{refusedBy, Kind, event, delete, blank, refused, kind, version, key, deletion, deletionKey, deletionVersion}
-use Rattle.catalogue.specs.Assoc.{find, put, remove}
+use mathlib.Core.Option.{none, some}
+use lib.ListN.{length, getD}
+use Rattle.catalogue.specs.Assoc.{find}
+use Rattle.catalogue.specs.Line.{key, deletionKey}
+use Rattle.catalogue.specs.Section.{Part, part}
 
 -- the held E lines, and the deletions' bytes
 pub record Catalogue : Type 0 where
@@ -18,35 +15,20 @@ pub record Catalogue : Type 0 where
 abbrev pub empty : Catalogue
 empty = record { held = []; deletions = [] }
 
--- the numbers answered: 12, and 20 to 26
-abbrev pub full : ℕ
-full = 12
+-- its sections in their order: at most 512 held E lines of 80 bytes; at most 512 deletions of 11 bytes (source, identifier, version)
+abbrev pub parts : Catalogue → List Part
+parts c = part 80 512 (c .held) ∷ part 11 512 (c .deletions) ∷ []
 
-abbrev pub stored : ℕ
-stored = 20
+-- the catalogue of such sections
+abbrev pub fromParts : List Part → Catalogue
+fromParts ps = record { held = getD ps 0 (part 0 0 []) .entries; deletions = getD ps 1 (part 0 0 []) .entries }
 
-abbrev pub replaced : ℕ
-replaced = 21
+-- the catalogue with another section
+abbrev pub withHeld : Catalogue → List (List ℕ) → Catalogue
+withHeld c hs = record { held = hs; deletions = c .deletions }
 
-abbrev pub repeated : ℕ
-repeated = 22
-
-abbrev pub outdated : ℕ
-outdated = 23
-
-abbrev pub removed : ℕ
-removed = 24
-
-abbrev pub noted : ℕ
-noted = 25
-
-abbrev pub nothingHeld : ℕ
-nothingHeld = 26
-
--- what a call answers, and the catalogue after it
-pub record Taken : Type 0 where
-  pub answer : ℕ
-  pub after : Catalogue
+abbrev pub withDeletions : Catalogue → List (List ℕ) → Catalogue
+withDeletions c ds = record { held = c .held; deletions = ds }
 
 -- the held lines whose pair no deletion names
 unfoldable pub onlyHeld : List (List ℕ) → List (List ℕ) → List (List ℕ)
@@ -56,58 +38,3 @@ onlyHeld deletions (h ∷ hs) = elim (find deletionKey (key h) deletions) [ none
 -- how many pairs are named
 unfoldable pub named : Catalogue → ℕ
 named c = length (c .deletions) + length (onlyHeld (c .deletions) (c .held))
-
--- a line whose pair is new: refused where 512 are named
-unfoldable pub ifRoom : Catalogue → Taken → Taken
-ifRoom c t = pick (leb 512 (named c)) (record { answer = full; after = c }) t
-
--- an E line, no deletion at or above it: nothing held 20; held version above it 23; equal bytes 22; else replaced, 21
-unfoldable pub takeAbove : Catalogue → List ℕ → Option (List ℕ) → Taken
-takeAbove c l none = record { answer = stored; after = record { held = put key l (c .held); deletions = c .deletions } }
-takeAbove c l (some h) =
-    pick (ltb (version l) (version h)) (record { answer = outdated; after = c })
-    (pick (sameBytes l h) (record { answer = repeated; after = c })
-    (record { answer = replaced; after = record { held = put key l (c .held); deletions = c .deletions } }))
-
--- an E line: deleted version at or above it 23; then as above; a new pair needs room
-unfoldable pub takeEvent : Catalogue → List ℕ → Option (List ℕ) → Option (List ℕ) → Taken
-takeEvent c l none none = ifRoom c (takeAbove c l none)
-takeEvent c l none (some h) = takeAbove c l (some h)
-takeEvent c l (some d) o =
-    pick (leb (version l) (deletionVersion d)) (record { answer = outdated; after = c }) (takeAbove c l o)
-
--- a DE line, no deletion at or above it: the deletion becomes its version; a held line at or below it is removed, 24, or none is, 25
-unfoldable pub deleteAbove : Catalogue → List ℕ → Option (List ℕ) → Taken
-deleteAbove c l none = record { answer = noted; after = record { held = c .held; deletions = put deletionKey (deletion l) (c .deletions) } }
-deleteAbove c l (some h) =
-    pick (leb (version h) (version l))
-    (record { answer = removed; after = record { held = remove key (key l) (c .held); deletions = put deletionKey (deletion l) (c .deletions) } })
-    (record { answer = noted; after = record { held = c .held; deletions = put deletionKey (deletion l) (c .deletions) } })
-
--- a DE line: deleted version at or above it 23; then as above; a new pair needs room
-unfoldable pub takeDelete : Catalogue → List ℕ → Option (List ℕ) → Option (List ℕ) → Taken
-takeDelete c l none none = ifRoom c (deleteAbove c l none)
-takeDelete c l none (some h) = deleteAbove c l (some h)
-takeDelete c l (some d) o =
-    pick (leb (version l) (deletionVersion d)) (record { answer = outdated; after = c }) (deleteAbove c l o)
-
--- a DE line with a blank version: nothing held 26; a held line is removed and its version becomes the deleted one, 24
-unfoldable pub takeBlank : Catalogue → List ℕ → Option (List ℕ) → Taken
-takeBlank c l none = record { answer = nothingHeld; after = c }
-takeBlank c l (some h) =
-    record { answer = removed; after = record { held = remove key (key l) (c .held); deletions = put deletionKey (deletion h) (c .deletions) } }
-
--- by its kind; a refused line changes nothing, and its own refusal is answered
-unfoldable pub takeKind : Kind → Catalogue → List ℕ → Taken
-takeKind event c l = takeEvent c l (find deletionKey (key l) (c .deletions)) (find key (key l) (c .held))
-takeKind delete c l = takeDelete c l (find deletionKey (key l) (c .deletions)) (find key (key l) (c .held))
-takeKind blank c l = takeBlank c l (find key (key l) (c .held))
-takeKind refused c l = record { answer = refusedBy (readLine l); after = c }
-
-unfoldable pub step : Catalogue → List ℕ → Taken
-step c l = takeKind (kind l) c l
-
--- the lines one by one
-unfoldable pub run : Catalogue → List (List ℕ) → Catalogue
-run c [] = c
-run c (l ∷ ls) = run (step c l .after) ls

@@ -6,27 +6,33 @@ use mathlib.Core.List.{List, _++_}
 use mathlib.Core.Option.{none}
 use lib.ListN.{replicate}
 use Rattle.catalogue.specs.Assoc.{find}
-use Rattle.catalogue.specs.Line.{key, deletionKey}
+use Rattle.catalogue.specs.Line.{Acceptable, key, deletionKey}
 use Rattle.catalogue.specs.Catalogue.{Catalogue}
 use Rattle.catalogue.specs.FromSet.{IsCatalogueOf}
-use Rattle.catalogue.specs.Lists.{Occurs, Acceptable}
-use Rattle.catalogue.specs.Maxima.{fromSet}
-use Rattle.catalogue.specs.Room.{encode, feed}
+use Rattle.catalogue.specs.Lists.{Occurs, SameLines, Settled}
+use Rattle.catalogue.specs.Room.{roomSize, encode, feed}
+
+-- a zeroed room, and the bytes past it
+abbrev pub zeroed : List ℕ → List ℕ
+zeroed past = replicate roomSize 0 ++ past
 
 -- a pair that a line names has an entry: a held line, a deletion, or both
 abbrev pub Kept : Catalogue → List ℕ → Type 0
 Kept c l = find key (key l) (c .held) ≡ none → find deletionKey (key l) (c .deletions) ≡ none → ⊥
 
--- two lists, each taken into a zeroed room, which may go on with other bytes
-pub record TwoDesks (ls ms : List (List ℕ)) (past : List ℕ) : Type 0 where
-  -- the rooms are equal, byte for byte
-  pub rooms : feed (replicate 46596 0 ++ past) ls ≡ feed (replicate 46596 0 ++ past) ms
-  -- each is the room of the catalogue computed from its set of lines, and the bytes past it are untouched
-  pub first : feed (replicate 46596 0 ++ past) ls ≡ encode (fromSet ls) ++ past
-  pub second : feed (replicate 46596 0 ++ past) ms ≡ encode (fromSet ms) ++ past
-  -- which is the catalogue that document 01 defines from a set, and the only one
-  pub defined : IsCatalogueOf (Occurs ls) (fromSet ls)
-  pub only : (c : Catalogue) → IsCatalogueOf (Occurs ls) c → c ≡ fromSet ls
-  pub same-set : fromSet ls ≡ fromSet ms
-  -- each pair named by an acceptable line keeps an entry
-  pub kept : (l : List ℕ) → Occurs ls l → Acceptable l → Kept (fromSet ls) l
+-- c is the catalogue that document 01 defines from the lines of a list, and the only one; each pair named by an acceptable line keeps
+-- an entry
+pub record TheCatalogue (ls : List (List ℕ)) (c : Catalogue) : Type 0 where
+  pub defined : IsCatalogueOf (Occurs ls) c
+  pub only : (d : Catalogue) → IsCatalogueOf (Occurs ls) d → d ≡ c
+  pub kept : (l : List ℕ) → Occurs ls l → Acceptable l → Kept c l
+
+-- two lists, each taken into a zeroed room of its own length, with bytes of its own past it: both rooms are the layout of that
+-- catalogue, and the bytes past them are untouched
+pub record TwoDesks (ls ms : List (List ℕ)) (p q : List ℕ) (c : Catalogue) : Type 0 where
+  pub first : feed (zeroed p) ls ≡ encode c ++ p
+  pub second : feed (zeroed q) ms ≡ encode c ++ q
+  pub catalogue : TheCatalogue ls c
+
+abbrev pub Demand3 : Type 0
+Demand3 = (ls ms : List (List ℕ)) (p q : List ℕ) → SameLines ls ms → Settled ls → (c : Catalogue) × TwoDesks ls ms p q c

@@ -17,7 +17,7 @@ pub record Of (S : List ℕ → Type 0) (t : Kind) (k : ℕ) (x : List ℕ) : Ty
 abbrev pub DeletionIs : (List ℕ → Type 0) → ℕ → Option (List ℕ) → Type 0
 DeletionIs S k none = (x : List ℕ) → Of S delete k x → ⊥
 DeletionIs S k (some d) =
-    (l : List ℕ) × Of S delete k l × (d ≡ deletion l) × ((x : List ℕ) → Of S delete k x → version x ≤ version l)
+    (l : List ℕ) × Of S delete k l × (d ≡ deletion l (version l)) × ((x : List ℕ) → Of S delete k x → version x ≤ version l)
 
 -- the held line for key k: the E line with the highest version, where every DE line is below it; or none where each E line
 -- has a DE line at or above it

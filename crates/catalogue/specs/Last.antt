@@ -1,17 +1,32 @@
--- The catalogue of a list of lines in their order of arrival, where lines may share source, identifier and version and yet differ:
--- the last one received counts. Document 01, "The catalogue", taking E: a held line of equal version is replaced.
-use Rattle.columns.specs.Answer.{pick}
-use Prim.Native.Nat.{ℕ, _≤_}
-use mathlib.Core.Path.{_≡_}
-use mathlib.Core.Bool.{_&&_}
-use mathlib.Core.List.{List, [], _∷_, List·Memᴰ}
+-- The catalogue of a list of lines, computed: for each pair the highest of its DE lines and the last received of its highest E lines.
+-- Document 01, "The catalogue": "From a set", and taking E, where a held line of equal version is replaced.
+use Prim.Native.Nat.{ℕ}
+use mathlib.Core.Bool.{Bool, true, false, _&&_}
+use mathlib.Core.List.{List, [], _∷_}
 use mathlib.Core.Option.{Option, none, some}
-use lib.Dec.{leb, eqb}
-use lib.ListN.{length}
-use Rattle.catalogue.specs.Line.{Kind, event, delete, blank, kind, pair, version, key}
+use lib.Dec.{ltb, leb, eqb}
+use Rattle.columns.specs.Answer.{pick}
+use Rattle.catalogue.specs.Assoc.{put}
+use Rattle.catalogue.specs.Line.{Kind, event, delete, blank, refused, kind, version, key, deletion}
 use Rattle.catalogue.specs.Catalogue.{Catalogue}
-use Rattle.catalogue.specs.Lists.{Occurs, Acceptable}
-use Rattle.catalogue.specs.Maxima.{sameKind, highest, deletionFor, heldFor, keys, collect}
+
+unfoldable pub sameKind : Kind → Kind → Bool
+sameKind event event = true
+sameKind event delete = false
+sameKind event blank = false
+sameKind event refused = false
+sameKind delete event = false
+sameKind delete delete = true
+sameKind delete blank = false
+sameKind delete refused = false
+sameKind blank event = false
+sameKind blank delete = false
+sameKind blank blank = true
+sameKind blank refused = false
+sameKind refused event = false
+sameKind refused delete = false
+sameKind refused blank = false
+sameKind refused refused = true
 
 -- the one with the higher version; x arrives first, so where the versions are equal the other was received later and wins
 unfoldable pub later : List ℕ → Option (List ℕ) → Option (List ℕ)
@@ -23,18 +38,32 @@ unfoldable pub lastHighest : Kind → ℕ → List (List ℕ) → Option (List �
 lastHighest t k [] = none
 lastHighest t k (x ∷ xs) = pick (sameKind (kind x) t && eqb (key x) k) (later x (lastHighest t k xs)) (lastHighest t k xs)
 
--- for each pair, the highest of its DE lines and the last received of its highest E lines
+-- a DE line's deletion
+unfoldable pub deletionFor : Option (List ℕ) → Option (List ℕ)
+deletionFor none = none
+deletionFor (some d) = some (deletion d (version d))
+
+-- the E line, if it is above the DE line or there is none
+unfoldable pub heldFor : Option (List ℕ) → Option (List ℕ) → Option (List ℕ)
+heldFor none d = none
+heldFor (some e) none = some e
+heldFor (some e) (some d) = pick (ltb (version d) (version e)) (some e) none
+
+-- the keys that lines name, ascending
+unfoldable pub keys : List (List ℕ) → List ℕ
+keys [] = []
+keys (x ∷ xs) = put (λ (k : ℕ). k) (key x) (keys xs)
+
+unfoldable pub collectAt : Option (List ℕ) → List (List ℕ) → List (List ℕ)
+collectAt none xs = xs
+collectAt (some x) xs = x ∷ xs
+
+unfoldable pub collect : (ℕ → Option (List ℕ)) → List ℕ → List (List ℕ)
+collect f [] = []
+collect f (k ∷ ks) = collectAt (f k) (collect f ks)
+
 unfoldable pub lastCatalogue : List (List ℕ) → Catalogue
 lastCatalogue ls = record {
-  held = collect (λ (k : ℕ). heldFor (lastHighest event k ls) (highest delete k ls)) (keys ls);
-  deletions = collect (λ (k : ℕ). deletionFor (highest delete k ls)) (keys ls);
+  held = collect (λ (k : ℕ). heldFor (lastHighest event k ls) (lastHighest delete k ls)) (keys ls);
+  deletions = collect (λ (k : ℕ). deletionFor (lastHighest delete k ls)) (keys ls);
 }
-
--- what is asked of such a list: what a settled one has, save that E lines may share source, identifier and version and yet differ
-pub record Bounded (ls : List (List ℕ)) : Type 0 where
-  -- no acceptable delete has a blank version
-  pub no-blank : (x : List ℕ) → Occurs ls x → kind x ≡ blank → ⊥
-  -- at most 512 pairs are named by acceptable lines
-  pub pairs : List (List ℕ)
-  pub few : length pairs ≤ 512
-  pub named-there : (x : List ℕ) → Occurs ls x → Acceptable x → List·Memᴰ (pair x) pairs

@@ -1,5 +1,6 @@
 -- What the catalogue reads of a line: its kind, its pair and its version. Document 01, "The catalogue".
 use Prim.Native.Nat.{ℕ}
+use mathlib.Core.Path.{_≡_}
 use mathlib.Core.List.{List, [], _∷_, _++_}
 use lib.Dec.{eqb}
 use lib.ListN.{take, drop, getD}
@@ -19,6 +20,10 @@ kindOf (refusal n k) = refused
 
 unfoldable pub kind : List ℕ → Kind
 kind l = kindOf (readLine l)
+
+-- document 01's word: the line meets every rule for an E or a DE line
+abbrev pub Acceptable : List ℕ → Type 0
+Acceptable l = kind l ≡ refused → ⊥
 
 -- the number and the column of a refused line
 abbrev pub refusedBy : Answer Message → ℕ
@@ -41,9 +46,9 @@ version l = getD l 12 0
 unfoldable pub key : List ℕ → ℕ
 key l = wordOf 0 (pair l)
 
--- a deletion's 11 bytes, of a line: source, identifier, version; its key and its version
-unfoldable pub deletion : List ℕ → List ℕ
-deletion l = pair l ++ (version l ∷ [])
+-- a deletion's 11 bytes: the pair of a line, and a version
+unfoldable pub deletion : List ℕ → ℕ → List ℕ
+deletion l v = pair l ++ (v ∷ [])
 
 unfoldable pub deletionKey : List ℕ → ℕ
 deletionKey d = wordOf 0 (take 10 d)

@@ -1,24 +1,25 @@
 -- Looking a pair up: 27 with the place of its held line, from 0, or 28. Document 01, "Numbers answered".
 use Prim.Native.Nat.{ℕ}
-use mathlib.Core.Bool.{true, false}
 use mathlib.Core.List.{List, _++_}
 use mathlib.Core.Option.{Option, none, some}
-use lib.Dec.{leb, eqb}
+use lib.Dec.{eqb}
 use lib.ListN.{length, take}
 use Rattle.columns.specs.Answer.{pick}
+use Rattle.formats.specs.Cube.{wrongLength}
 use Rattle.formats.specs.Record.{wordOf}
+use Rattle.catalogue.specs.declared.Looked.{Looked}
+use Rattle.catalogue.specs.Answers.{isHeld, notHeld}
 use Rattle.catalogue.specs.Assoc.{find, below}
 use Rattle.catalogue.specs.Line.{key}
 use Rattle.catalogue.specs.Catalogue.{Catalogue}
-use Rattle.catalogue.specs.Room.{contents, inOrder}
-use Rattle.catalogue.specs.declared.Looked.{Looked}
+use Rattle.catalogue.specs.Room.{roomSize, contents, checked}
 
 abbrev pub looked : ℕ → ℕ → Looked
 looked n i = record { number = n; place = i }
 
 abbrev pub lookedBy : Option (List ℕ) → ℕ → Looked
-lookedBy none i = looked 28 0
-lookedBy (some h) i = looked 27 i
+lookedBy none i = looked notHeld 0
+lookedBy (some h) i = looked isHeld i
 
 -- the held line of a pair's key; its place is the number of held lines below it
 unfoldable pub lookedIn : Catalogue → ℕ → Looked
@@ -27,10 +28,7 @@ lookedIn c k = lookedBy (find key k (c .held)) (below key k (c .held))
 -- 11, 13, then 1 for a source not of 2 bytes or an identifier not of 8
 unfoldable pub lookUp : List ℕ → List ℕ → List ℕ → Looked
 lookUp room source identifier =
-    pick (leb 46596 (length room))
-    (pick (inOrder (take 46596 room))
+    checked room (λ (n : ℕ). looked n 0)
     (pick (eqb (length source) 2)
-    (pick (eqb (length identifier) 8) (lookedIn (contents (take 46596 room)) (wordOf 0 (source ++ identifier))) (looked 1 0))
-    (looked 1 0))
-    (looked 13 0))
-    (looked 11 0)
+    (pick (eqb (length identifier) 8) (lookedIn (contents (take roomSize room)) (wordOf 0 (source ++ identifier))) (looked wrongLength 0))
+    (looked wrongLength 0))

@@ -4,8 +4,8 @@ use mathlib.Core.Path.{_≡_}
 use mathlib.Core.Bool.{true}
 use mathlib.Core.List.{List}
 use lib.ListN.{length, take}
-use Rattle.catalogue.specs.Room.{inOrder}
+use Rattle.catalogue.specs.Room.{roomSize, inOrder}
 
 pub record Ordered (r : List ℕ) : Type 0 where
-  pub long : 46596 ≤ length r
-  pub fine : inOrder (take 46596 r) ≡ true
+  pub long : roomSize ≤ length r
+  pub fine : inOrder (take roomSize r) ≡ true

@@ -1,13 +1,19 @@
 // The catalogue: one room of held E lines and deletions.
 pub mod desk;
+pub mod key;
 pub mod look_up;
+pub mod moves;
 pub mod order;
-pub mod rows;
+pub mod room;
+pub mod section;
 pub mod splice;
 pub mod take;
 
 // The bytes of a room.
 pub const ROOM: usize = 46596;
+
+// The most pairs that a room names.
+pub const PAIRS: usize = 512;
 
 // The numbers that the catalogue answers (document 01, "Numbers answered"): refusals, then what was taken.
 pub const FULL: u8 = 12;

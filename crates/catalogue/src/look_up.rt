@@ -1,18 +1,20 @@
 // A pair looked up in a room.
 use super::Looked;
-use super::order::in_order;
-use super::rows::Seek;
-use super::rows::look;
-use super::rows::word2;
-use super::rows::word8;
-use super::take::held;
-use formats::record::copy_at;
+use super::PAIRS;
+use super::ROOM;
+use super::key::Key;
+use super::key::key_at;
+use super::order::named_pairs;
+use super::room::held_in;
+use super::section::Seek;
+use super::section::look;
 ghost use mathlib.Core.Path.{_≡_};
 ghost use mathlib.Core.List.{_++_};
 ghost use lib.ListN.{length};
 ghost use Rattle.formats.specs.Record.{wordOf};
 ghost use Rattle.catalogue.specs.Room.{contents};
 ghost use Rattle.catalogue.specs.Ordered.{Ordered};
+ghost use Rattle.catalogue.specs.Keys.{keyNumber};
 ghost use Rattle.catalogue.specs.LookUp.{looked, lookedIn, lookUp};
 
 fn none(number: u8) -> Looked
@@ -21,25 +23,24 @@ fn none(number: u8) -> Looked
     Looked { number, place: 0 }
 }
 
-fn pair_of(source: &[u8], identifier: &[u8]) -> [u8; 10]
+// The key of a source and an identifier.
+fn key_by(source: &[u8], identifier: &[u8]) -> Key
     requires { ⌜ (length (now source) ≡ 2) × (length (now identifier) ≡ 8) ⌝ }
-    ensures { λ r. ⌜ r ≡ now (source .entry) ++ now (identifier .entry) ⌝ }
+    ensures { λ r. ⌜ keyNumber r ≡ wordOf 0 (now (source .entry) ++ now (identifier .entry)) ⌝ }
 {
-    let mut pair = [0u8; 10];
-    copy_at(&mut pair, 0, source);
-    copy_at(&mut pair, 2, identifier);
-    pair
+    Key {
+        source: super::key::word2(source, 0),
+        identifier: super::key::word8(identifier, 0),
+    }
 }
 
-// A pair, source and identifier, in a room in order.
-fn look_in(room: &[u8], pair: &[u8]) -> Looked
-    requires { ⌜ Ordered (now room) × (length (now pair) ≡ 10) ⌝ }
-    ensures { λ r. ⌜ r ≡ lookedIn (contents (now (room .entry))) (wordOf 0 (now (pair .entry))) ⌝ }
+// A key in a room in order.
+fn look_in(room: &[u8], key: Key) -> Looked
+    requires { ⌜ Ordered (now room) ⌝ }
+    ensures { λ r. ⌜ r ≡ lookedIn (contents (now (room .entry))) (keyNumber key) ⌝ }
 {
-    let n = held(room);
-    let source = word2(pair, 0);
-    let identifier = word8(pair, 2);
-    match look(room, 2, 80, 10, n, source, identifier) {
+    let held = held_in(room);
+    match look(room, held, key) {
         Seek::Found(place) => Looked {
             number: super::HELD,
             place,
@@ -52,18 +53,17 @@ fn look_in(room: &[u8], pair: &[u8]) -> Looked
 pub fn look_up(room: &[u8], source: &[u8], identifier: &[u8]) -> Looked
     ensures { λ r. ⌜ r ≡ lookUp (now (room .entry)) (now (source .entry)) (now (identifier .entry)) ⌝ }
 {
-    if room.len() < 46596 {
+    if room.len() < ROOM {
         return none(columns::SHORT);
     }
-    if in_order(&room[0..46596]) {
-        if source.len() != 2 {
-            return none(formats::LENGTH);
-        }
-        if identifier.len() != 8 {
-            return none(formats::LENGTH);
-        }
-        let pair = pair_of(source, identifier);
-        return look_in(room, &pair);
+    if PAIRS < named_pairs(&room[0..ROOM]) {
+        return none(super::DISORDER);
     }
-    none(super::DISORDER)
+    if source.len() != 2 {
+        return none(formats::LENGTH);
+    }
+    if identifier.len() != 8 {
+        return none(formats::LENGTH);
+    }
+    look_in(room, key_by(source, identifier))
 }

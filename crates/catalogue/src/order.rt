@@ -1,34 +1,48 @@
-// Whether a room is in order: each loop over the rows of a section.
+// Whether a room is in order, and how many pairs it then names.
 use super::Call;
-use super::rows::Seek;
+use super::PAIRS;
+use super::ROOM;
+use super::room::deletions_in;
+use super::room::end_of;
+use super::room::held_in;
+use super::section::Section;
+use super::section::Seek;
+use super::section::advance;
+use super::section::ascending;
+use super::section::entry_at;
+use super::section::entry_byte;
+use super::section::key_of;
+use super::section::met;
 use super::take::take_ordered;
 use columns::bytes::first_barred;
 use formats::judge::is_event;
 ghost use mathlib.Core.Path.{_≡_};
 ghost use mathlib.Core.List.{[], _∷_};
-ghost use Prim.Native.Nat.{_+_, _*_, _-_, _≤_, _<_};
-ghost use lib.ListN.{length, take, drop};
+ghost use Prim.Native.Nat.{_+_, _-_, _≤_, _<_};
+ghost use lib.ListN.{length, take, drop, getD};
 ghost use Rattle.columns.specs.Answer.{pick};
-ghost use Rattle.catalogue.specs.Line.{deletionKey};
-ghost use Rattle.catalogue.specs.Assoc.{AscFrom};
-ghost use Rattle.catalogue.specs.Catalogue.{onlyHeld};
-ghost use Rattle.catalogue.specs.Room.{rows, every, heldOk, deletionOk, inOrder, orderOf, roomAfter, callOf};
+ghost use Rattle.catalogue.specs.Line.{key, deletionKey};
+ghost use Rattle.catalogue.specs.Assoc.{below, AscFrom};
+ghost use Rattle.catalogue.specs.Catalogue.{onlyHeld, named};
+ghost use Rattle.catalogue.specs.Good.{every, heldOk, deletionOk};
+ghost use Rattle.catalogue.specs.Room.{roomSize, contents, inOrder, orderOf, callOf, roomAfter};
+ghost use Rattle.catalogue.specs.Entries.{entriesOf, Inside};
+ghost use Rattle.catalogue.specs.Places.{heldIn, deletionsIn};
 ghost use Rattle.catalogue.specs.Zeros.{allZero};
 
 // More pairs than a room can name.
 const TOO_MANY: usize = 513;
 
 // Whether each deletion is of allowed bytes.
-fn deletion_all(s: &[u8], base: usize, m: usize) -> bool
-    requires { ⌜ (base + 11 * m ≤ length (now s)) × (m ≤ 512) ⌝ }
-    ensures { λ r. ⌜ r ≡ every deletionOk (rows m 11 (drop base (now (s .entry)))) ⌝ }
+fn deletions_allowed(s: &[u8], of: Section) -> bool
+    requires { ⌜ Inside of (now s) × (of .size ≡ 11) ⌝ }
+    ensures { λ r. ⌜ r ≡ every deletionOk (entriesOf of (now (s .entry))) ⌝ }
 {
     let mut i = 0;
-    while i < m {
-        let at = base + 11 * i;
+    while i < of.count {
+        let at = entry_at(s, of, i);
         let end = at + 11;
-        let row = &s[at..end];
-        if first_barred(row, 1, 1, 11) == 0 {
+        if first_barred(&s[at..end], 1, 1, 11) == 0 {
             i += 1;
         } else {
             return false;
@@ -52,23 +66,21 @@ fn zeros(s: &[u8], from: usize, to: usize) -> bool
     true
 }
 
-// 0 where the held line at `at` is not acceptable or not above its pair's deletion; else 1, and one more where its pair has no
-// deletion. The m deletions stand at g.
-fn held_one(s: &[u8], at: usize, g: usize, m: usize) -> usize
-    requires { ⌜ (at + 80 ≤ length (now s)) × (g + 11 * m ≤ length (now s)) × (m ≤ 512) × AscFrom deletionKey 0 (rows m 11 (drop g (now s))) ⌝ }
-    ensures { λ r. ⌜ (r ≡ pick (heldOk (rows m 11 (drop g (now (s .entry)))) (take 80 (drop at (now (s .entry))))) (1 + length (onlyHeld (rows m 11 (drop g (now (s .entry)))) (take 80 (drop at (now (s .entry))) ∷ []))) 0) × (r ≤ 2) ⌝ }
+// 0 where the i-th held line is not acceptable or not above its pair's deletion, whose place is j; else 1, and one more where its
+// pair has no deletion.
+fn held_weight(s: &[u8], held: Section, i: usize, deletions: Section, j: usize) -> usize
+    requires { ⌜ (held ≡ heldIn (now s)) × (deletions ≡ deletionsIn (now s)) × Inside held (now s) × Inside deletions (now s) × (i < held .count) × AscFrom deletionKey 0 (entriesOf deletions (now s)) × (j ≡ below deletionKey (key (getD (entriesOf held (now s)) i [])) (entriesOf deletions (now s))) ⌝ }
+    ensures { λ r. ⌜ (r ≡ pick (heldOk (entriesOf deletions (now (s .entry))) (getD (entriesOf held (now (s .entry))) i [])) (1 + length (onlyHeld (entriesOf deletions (now (s .entry))) (getD (entriesOf held (now (s .entry))) i [] ∷ []))) 0) × (r ≤ 2) ⌝ }
 {
+    let at = entry_at(s, held, i);
     let end = at + 80;
-    let row = &s[at..end];
-    if !is_event(row) {
+    if !is_event(&s[at..end]) {
         return 0;
     }
-    let src = super::rows::word2(row, 10);
-    let id = super::rows::word8(row, 2);
-    match super::rows::look(s, g, 11, 0, m, src, id) {
+    match met(s, deletions, j, key_of(s, held, i)) {
         Seek::Missing(_) => 2,
-        Seek::Found(j) => {
-            if s[g + 11 * j + 10] < s[at + 12] {
+        Seek::Found(k) => {
+            if entry_byte(s, deletions, k, 10) < entry_byte(s, held, i, 12) {
                 return 1;
             }
             0
@@ -76,15 +88,18 @@ fn held_one(s: &[u8], at: usize, g: usize, m: usize) -> usize
     }
 }
 
-// How many held lines have no deletion, where each is acceptable and above its pair's; else too many.
-fn held_all(s: &[u8], n: usize, g: usize, m: usize) -> usize
-    requires { ⌜ (2 + 80 * n ≤ length (now s)) × (n ≤ 512) × (g + 11 * m ≤ length (now s)) × (m ≤ 512) × AscFrom deletionKey 0 (rows m 11 (drop g (now s))) ⌝ }
-    ensures { λ r. ⌜ (r ≡ pick (every (heldOk (rows m 11 (drop g (now (s .entry))))) (rows n 80 (drop 2 (now (s .entry))))) (length (onlyHeld (rows m 11 (drop g (now (s .entry)))) (rows n 80 (drop 2 (now (s .entry)))))) 513) × (r ≤ 513) ⌝ }
+// How many held lines have no deletion, where each is acceptable and above its pair's; else too many. The deletions are walked
+// beside the held lines.
+fn only_held(s: &[u8], held: Section, deletions: Section) -> usize
+    requires { ⌜ (held ≡ heldIn (now s)) × (deletions ≡ deletionsIn (now s)) × Inside held (now s) × Inside deletions (now s) × (held .count ≤ 512) × AscFrom key 0 (entriesOf held (now s)) × AscFrom deletionKey 0 (entriesOf deletions (now s)) ⌝ }
+    ensures { λ r. ⌜ (r ≡ pick (every (heldOk (entriesOf deletions (now (s .entry)))) (entriesOf held (now (s .entry)))) (length (onlyHeld (entriesOf deletions (now (s .entry))) (entriesOf held (now (s .entry))))) 513) × (r ≤ 513) ⌝ }
 {
     let mut k = 0;
     let mut i = 0;
-    while i < n {
-        let t = held_one(s, 2 + 80 * i, g, m);
+    let mut j = 0;
+    while i < held.count {
+        j = advance(s, deletions, j, key_of(s, held, i));
+        let t = held_weight(s, held, i, deletions, j);
         if t == 0 {
             return TOO_MANY;
         }
@@ -94,43 +109,47 @@ fn held_all(s: &[u8], n: usize, g: usize, m: usize) -> usize
     k
 }
 
-// Whether the room is in order.
-pub fn in_order(s: &[u8]) -> bool
-    requires { ⌜ length (now s) ≡ 46596 ⌝ }
-    ensures { λ r. ⌜ r ≡ inOrder (now (s .entry)) ⌝ }
+// How many pairs a room in order names; too many where it is not in order.
+pub fn named_pairs(s: &[u8]) -> usize
+    requires { ⌜ length (now s) ≡ roomSize ⌝ }
+    ensures { λ r. ⌜ r ≡ pick (inOrder (now (s .entry))) (named (contents (now (s .entry)))) 513 ⌝ }
 {
-    let n = super::rows::word2(s, 0) as usize;
-    if 512 < n {
-        return false;
+    let held = held_in(s);
+    if PAIRS < held.count {
+        return TOO_MANY;
     }
-    let m = super::rows::word2(s, 2 + 80 * n) as usize;
-    if 512 < m {
-        return false;
+    let deletions = deletions_in(s, held);
+    if PAIRS < deletions.count {
+        return TOO_MANY;
     }
-    let g = 4 + 80 * n;
-    if super::rows::ascending(s, g, 11, 0, m) {
-        if super::rows::ascending(s, 2, 80, 10, n) {
-            if deletion_all(s, g, m) {
-                if m + held_all(s, n, g, m) <= 512 {
-                    return zeros(s, g + 11 * m, 46596);
-                }
-                return false;
-            }
-            return false;
-        }
-        return false;
+    if !ascending(s, deletions) {
+        return TOO_MANY;
     }
-    false
+    if !ascending(s, held) {
+        return TOO_MANY;
+    }
+    if !deletions_allowed(s, deletions) {
+        return TOO_MANY;
+    }
+    let named = deletions.count + only_held(s, held, deletions);
+    if PAIRS < named {
+        return TOO_MANY;
+    }
+    let used = end_of(s, deletions);
+    if zeros(s, used, ROOM) {
+        return named;
+    }
+    TOO_MANY
 }
 
 // Whether any bytes are a room in order: 0, else the refusal.
 pub fn check_order(room: &[u8]) -> u8
     ensures { λ r. ⌜ r ≡ orderOf (now (room .entry)) ⌝ }
 {
-    if room.len() < 46596 {
+    if room.len() < ROOM {
         return columns::SHORT;
     }
-    if in_order(&room[0..46596]) {
+    if named_pairs(&room[0..ROOM]) <= PAIRS {
         return 0;
     }
     super::DISORDER
@@ -140,17 +159,19 @@ pub fn check_order(room: &[u8]) -> u8
 pub fn take_line(room: &mut [u8], line: &[u8]) -> Call
     ensures { λ r. ⌜ (r ≡ callOf (now (room .entry)) (now (line .entry))) × (now (room .exit) ≡ roomAfter (now (room .entry)) (now (line .entry))) ⌝ }
 {
-    if room.len() < 46596 {
+    if room.len() < ROOM {
         return Call {
             number: columns::SHORT,
             column: 0,
         };
     }
-    if in_order(&room[0..46596]) {
-        return take_ordered(room, line);
+    let named = named_pairs(&room[0..ROOM]);
+    if PAIRS < named {
+        return Call {
+            number: super::DISORDER,
+            column: 0,
+        };
     }
-    Call {
-        number: super::DISORDER,
-        column: 0,
-    }
+    let taken = take_ordered(room, named, line);
+    taken.call
 }

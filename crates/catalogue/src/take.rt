@@ -1,204 +1,243 @@
-// A line taken into a room that is in order.
+// A line taken into a room that is in order: what is found of its pair, what that decides, and the bytes that move.
 use super::Call;
-use super::rows::Seek;
+use super::PAIRS;
+use super::key::key_at;
+use super::moves::put;
+use super::moves::take_out;
+use super::room::deletions_in;
+use super::room::end_of;
+use super::room::held_in;
+use super::section::Section;
+use super::section::Seek;
+use super::section::entry_at;
+use super::section::entry_byte;
+use super::section::look;
 use formats::cube::EVENT;
 use formats::cube::Read;
 use formats::cube::read_line;
 use formats::record::same;
 ghost use mathlib.Core.Path.{_≡_};
-ghost use mathlib.Core.List.{[], _∷_, _++_};
-ghost use Prim.Native.Nat.{_+_, _*_, _≤_, _<_};
-ghost use lib.ListN.{length, getD, take, drop, set};
-ghost use Rattle.catalogue.specs.Line.{Kind, event, delete, blank, kind, key, version, deletionKey, deletionVersion};
-ghost use Rattle.catalogue.specs.Catalogue.{Taken, named as namedOf, onlyHeld, step, takeAbove, deleteAbove};
-ghost use Rattle.catalogue.specs.Assoc.{find, put};
-ghost use Rattle.catalogue.specs.Room.{contents, encode, answerOf, roomAfter, callOf};
-ghost use Rattle.catalogue.specs.Plans.{Carried, withHeld, withDeletions, deletionOf, Wiped, sortBy, sortIn};
-ghost use Rattle.formats.specs.Cube.{readLine};
-ghost use Rattle.formats.specs.Record.{sameBytes};
+ghost use mathlib.Core.Bool.{true};
+ghost use mathlib.Core.List.{List, _++_};
+ghost use Prim.Native.Nat.{ℕ, _≤_};
+ghost use lib.ListN.{length, drop};
+ghost use Rattle.catalogue.specs.Line.{kind, deletionKey, deletion as deletionOf};
+ghost use Rattle.catalogue.specs.Assoc.{put as putIn};
+ghost use Rattle.catalogue.specs.Catalogue.{named as namedOf, withDeletions};
+ghost use Rattle.catalogue.specs.Taking.{covered as coveredBy, overHeld, overDeleted, overBlank, decide as decideBy, declined as declinedBy, limited as limitedTo, deedOf};
+ghost use Rattle.catalogue.specs.Room.{roomSize, encode, contents, roomAfter};
 ghost use Rattle.catalogue.specs.Ordered.{Ordered};
-ghost use Rattle.catalogue.specs.Rows.{Sought};
+ghost use Rattle.catalogue.specs.Entries.{entriesOf, entryOf, Inside, placeOf};
+ghost use Rattle.catalogue.specs.Places.{deletionsIn};
+ghost use Rattle.catalogue.specs.Findings.{noticeKind, noticeOf, refusedCall, IsFound, Placed, Known, Notable, answered, oneMore, namedAfter, Took};
 
-// How many lines are held.
-pub fn held(room: &[u8]) -> usize
-    requires { ⌜ Ordered (now room) ⌝ }
-    ensures { λ r. ⌜ (r ≡ getD (now (room .entry)) 0 0 * 256 + getD (now (room .entry)) 1 0) × (length (contents (now (room .entry)) .held) ≡ r) × (r ≤ 512) ⌝ }
-{
-    super::rows::word2(room, 0) as usize
+// What a line does to its pair: nothing, with an answer; the line is held, with an answer; its deletion becomes a version; its held
+// line goes besides.
+pub enum Deed {
+    Leave(u8),
+    Hold(u8),
+    Note(u8),
+    Wipe(u8),
 }
 
-// How many deletions there are, where n lines are held.
-pub fn deletions(room: &[u8], n: usize) -> usize
-    requires { ⌜ Ordered (now room) × (n ≡ getD (now room) 0 0 * 256 + getD (now room) 1 0) × (n ≤ 512) ⌝ }
-    ensures { λ r. ⌜ (r ≡ getD (now (room .entry)) (2 + 80 * n) 0 * 256 + getD (now (room .entry)) (2 + 80 * n + 1) 0) × (length (contents (now (room .entry)) .deletions) ≡ r) × (r ≤ 512) ⌝ }
-{
-    super::rows::word2(room, 2 + 80 * n) as usize
+// An acceptable line: an event, a delete with a version, a delete with a blank one.
+pub enum Notice {
+    Event,
+    Delete,
+    Blank,
 }
 
-// Where the line's pair is held.
-fn look_held(room: &[u8], line: &[u8]) -> Seek
-    requires { ⌜ Ordered (now room) × (13 ≤ length (now line)) ⌝ }
-    ensures { λ r. ⌜ Sought key (key (now (line .entry))) (contents (now (room .entry)) .held) r ⌝ }
-{
-    let n = held(room);
-    let src = super::rows::word2(line, 10);
-    let id = super::rows::word8(line, 2);
-    super::rows::look(room, 2, 80, 10, n, src, id)
+// The sections of a room, and where a line's pair stands in each.
+pub struct Findings {
+    pub held: Section,
+    pub deletions: Section,
+    pub in_held: Seek,
+    pub in_deletions: Seek,
 }
 
-// Where the line's pair is deleted.
-fn look_deletion(room: &[u8], line: &[u8]) -> Seek
-    requires { ⌜ Ordered (now room) × (13 ≤ length (now line)) ⌝ }
-    ensures { λ r. ⌜ Sought deletionKey (key (now (line .entry))) (contents (now (room .entry)) .deletions) r ⌝ }
-{
-    let n = held(room);
-    let m = deletions(room, n);
-    let src = super::rows::word2(line, 10);
-    let id = super::rows::word8(line, 2);
-    super::rows::look(room, 4 + 80 * n, 11, 0, m, src, id)
+// What a line taken into a room in order answers, and how many pairs are named after it.
+pub struct Taken {
+    pub call: Call,
+    pub named: usize,
 }
 
-// The version of a held line, and of a deletion.
-fn held_version(room: &[u8], i: usize) -> u8
-    requires { ⌜ Ordered (now room) × (i < length (contents (now room) .held)) ⌝ }
-    ensures { λ r. ⌜ r ≡ version (getD (contents (now (room .entry)) .held) i []) ⌝ }
+// By the kind of record that was read, and the line's version.
+fn notice_of(kind: u8, version: u8) -> Notice
+    ensures { λ r. ⌜ r ≡ noticeOf kind version ⌝ }
 {
-    let n = held(room);
-    room[14 + 80 * i]
-}
-
-fn deletion_version(room: &[u8], j: usize) -> u8
-    requires { ⌜ Ordered (now room) × (j < length (contents (now room) .deletions)) ⌝ }
-    ensures { λ r. ⌜ r ≡ deletionVersion (getD (contents (now (room .entry)) .deletions) j []) ⌝ }
-{
-    let n = held(room);
-    let m = deletions(room, n);
-    room[14 + 80 * n + 11 * j]
-}
-
-// Whether the held line at `at` has the bytes of `line`.
-fn same_at(room: &[u8], at: usize, line: &[u8]) -> bool
-    requires { ⌜ at + 80 ≤ length (now room) ⌝ }
-    ensures { λ r. ⌜ r ≡ sameBytes (now (line .entry)) (take 80 (drop at (now (room .entry)))) ⌝ }
-{
-    let end = at + 80;
-    same(line, &room[at..end])
-}
-
-// 1 for a held line whose pair no deletion names, else 0.
-fn only(room: &[u8], i: usize) -> usize
-    requires { ⌜ Ordered (now room) × (i < length (contents (now room) .held)) ⌝ }
-    ensures { λ r. ⌜ (r ≡ length (onlyHeld (contents (now (room .entry)) .deletions) (getD (contents (now (room .entry)) .held) i [] ∷ []))) × (r ≤ 1) ⌝ }
-{
-    let n = held(room);
-    let at = 2 + 80 * i;
-    let end = at + 80;
-    let row = &room[at..end];
-    match look_deletion(room, row) {
-        Seek::Found(_) => 0,
-        Seek::Missing(_) => 1,
+    if kind == EVENT {
+        return Notice::Event;
     }
-}
-
-// How many pairs are named.
-fn named(room: &[u8]) -> usize
-    requires { ⌜ Ordered (now room) ⌝ }
-    ensures { λ r. ⌜ r ≡ namedOf (contents (now (room .entry))) ⌝ }
-{
-    let n = held(room);
-    let mut k = deletions(room, n);
-    let mut i = 0;
-    while i < n {
-        k += only(room, i);
-        i += 1;
+    if version == 32 {
+        return Notice::Blank;
     }
-    k
+    Notice::Delete
 }
 
-// What an E line does: an answer that changes nothing, or the place where the line goes in, or that of the line it replaces.
-pub enum Plan {
-    Answer(u8),
-    Store(usize),
-    Replace(usize),
-}
-
-// No deletion at or above the line.
-fn above(room: &[u8], line: &[u8]) -> Plan
-    requires { ⌜ Ordered (now room) × (kind (now line) ≡ event) ⌝ }
-    ensures { λ r. ⌜ Carried r (contents (now (room .entry))) (now (line .entry)) (takeAbove (contents (now (room .entry))) (now (line .entry)) (find key (key (now (line .entry))) (contents (now (room .entry)) .held))) ⌝ }
+// The number and column of a refused line.
+fn refused(read: Read) -> Call
+    ensures { λ r. ⌜ r ≡ refusedCall read ⌝ }
 {
-    match look_held(room, line) {
-        Seek::Missing(i) => Plan::Store(i),
-        Seek::Found(i) => {
-            if line[12] < held_version(room, i) {
-                return Plan::Answer(super::OUTDATED);
-            }
-            if same_at(room, 2 + 80 * i, line) {
-                return Plan::Answer(super::REPEATED);
-            }
-            Plan::Replace(i)
-        }
-    }
-}
-
-fn decide_event(room: &[u8], line: &[u8]) -> Plan
-    requires { ⌜ Ordered (now room) × (kind (now line) ≡ event) ⌝ }
-    ensures { λ r. ⌜ Carried r (contents (now (room .entry))) (now (line .entry)) (step (contents (now (room .entry))) (now (line .entry))) ⌝ }
-{
-    match look_deletion(room, line) {
-        Seek::Found(j) => {
-            if line[12] <= deletion_version(room, j) {
-                return Plan::Answer(super::OUTDATED);
-            }
-            above(room, line)
-        }
-        Seek::Missing(_) => match look_held(room, line) {
-            Seek::Found(_) => above(room, line),
-            Seek::Missing(i) => {
-                if 512 <= named(room) {
-                    return Plan::Answer(super::FULL);
-                }
-                Plan::Store(i)
-            }
+    match read {
+        Read::Refused(number, column) => Call { number, column },
+        Read::There(_, _) => Call {
+            number: 0,
+            column: 0,
         },
     }
 }
 
-// The line goes in at place i of the held ones.
-fn store_held(room: &mut [u8], i: usize, line: &[u8])
-    requires { ⌜ Ordered (now room) × (i ≤ length (contents (now room) .held)) × (length (contents (now room) .held) < 512) × (length (now line) ≡ 80) ⌝ }
-    ensures { λ _. ⌜ now (room .exit) ≡ encode (withHeld (contents (now (room .entry))) (take i (contents (now (room .entry)) .held) ++ now (line .entry) ∷ drop i (contents (now (room .entry)) .held))) ++ drop 46596 (now (room .entry)) ⌝ }
+// Whether the deletions need no look.
+fn skips(notice: Notice, in_held: Seek) -> bool
+    ensures { λ r. ⌜ (r ≡ true → (notice ≡ Notice.Event) × IsFound in_held) ⌝ }
 {
-    let n = held(room);
-    let m = deletions(room, n);
-    super::splice::splice(room, 2 + 80 * i, 4 + 80 * n + 11 * m, line);
-    super::splice::set_count(room, 0, n + 1);
+    match notice {
+        Notice::Delete => false,
+        Notice::Blank => false,
+        Notice::Event => match in_held {
+            Seek::Missing(_) => false,
+            Seek::Found(_) => true,
+        },
+    }
 }
 
-// The line replaces the i-th held one.
-fn replace_held(room: &mut [u8], i: usize, line: &[u8])
-    requires { ⌜ Ordered (now room) × (i < length (contents (now room) .held)) × (length (now line) ≡ 80) ⌝ }
-    ensures { λ _. ⌜ now (room .exit) ≡ encode (withHeld (contents (now (room .entry))) (set (contents (now (room .entry)) .held) i (now (line .entry)))) ++ drop 46596 (now (room .entry)) ⌝ }
+// Looks for a line's pair. A held version is above its deletion, so an event whose pair is held needs no look at the deletions.
+fn look_both(room: &[u8], notice: Notice, line: &[u8]) -> Findings
+    requires { ⌜ Ordered (now room) × (kind (now line) ≡ noticeKind notice) ⌝ }
+    ensures { λ r. ⌜ Known (now (room .entry)) (now (line .entry)) r ⌝ }
 {
-    let n = held(room);
-    super::splice::copy_in(room, 2 + 80 * i, line);
+    let held = held_in(room);
+    let deletions = deletions_in(room, held);
+    let key = key_at(line, 10, 2);
+    let in_held = look(room, held, key);
+    if skips(notice, in_held) {
+        return Findings {
+            held,
+            deletions,
+            in_held,
+            in_deletions: Seek::Missing(0),
+        };
+    }
+    let in_deletions = look(room, deletions, key);
+    Findings {
+        held,
+        deletions,
+        in_held,
+        in_deletions,
+    }
 }
 
-// An E line, taken into a room in order.
-fn take_event(room: &mut [u8], line: &[u8]) -> u8
-    requires { ⌜ Ordered (now room) × (kind (now line) ≡ event) ⌝ }
-    ensures { λ r. ⌜ (r ≡ answerOf (now (room .entry)) (now (line .entry))) × (now (room .exit) ≡ roomAfter (now (room .entry)) (now (line .entry))) ⌝ }
+// Whether an entry of the pair's deletions covers a version.
+fn covered(room: &[u8], of: Section, seek: Seek, v: u8) -> bool
+    requires { ⌜ Inside of (now room) × (of .size ≡ 11) × placeOf seek (of .count) ⌝ }
+    ensures { λ r. ⌜ r ≡ coveredBy (entryOf (entriesOf of (now (room .entry))) seek) v ⌝ }
 {
-    match decide_event(room, line) {
-        Plan::Answer(k) => k,
-        Plan::Store(i) => {
-            store_held(room, i, line);
-            super::STORED
+    match seek {
+        Seek::Missing(_) => false,
+        Seek::Found(j) => v <= entry_byte(room, of, j, 10),
+    }
+}
+
+// An event that no deletion covers.
+fn over_held(room: &[u8], of: Section, seek: Seek, line: &[u8]) -> Deed
+    requires { ⌜ Inside of (now room) × (of .size ≡ 80) × placeOf seek (of .count) × (13 ≤ length (now line)) ⌝ }
+    ensures { λ r. ⌜ r ≡ overHeld (now (line .entry)) (entryOf (entriesOf of (now (room .entry))) seek) ⌝ }
+{
+    match seek {
+        Seek::Missing(_) => Deed::Hold(super::STORED),
+        Seek::Found(i) => {
+            if line[12] < entry_byte(room, of, i, 12) {
+                return Deed::Leave(super::OUTDATED);
+            }
+            let at = entry_at(room, of, i);
+            let end = at + 80;
+            if same(line, &room[at..end]) {
+                return Deed::Leave(super::REPEATED);
+            }
+            Deed::Hold(super::REPLACED)
         }
-        Plan::Replace(i) => {
-            replace_held(room, i, line);
-            super::REPLACED
+    }
+}
+
+// A delete of a version that no deletion covers.
+fn over_deleted(room: &[u8], of: Section, seek: Seek, v: u8) -> Deed
+    requires { ⌜ Inside of (now room) × (of .size ≡ 80) × placeOf seek (of .count) ⌝ }
+    ensures { λ r. ⌜ r ≡ overDeleted v (entryOf (entriesOf of (now (room .entry))) seek) ⌝ }
+{
+    match seek {
+        Seek::Missing(_) => Deed::Note(v),
+        Seek::Found(i) => {
+            if entry_byte(room, of, i, 12) <= v {
+                return Deed::Wipe(v);
+            }
+            Deed::Note(v)
         }
+    }
+}
+
+// A delete with a blank version.
+fn over_blank(room: &[u8], of: Section, seek: Seek) -> Deed
+    requires { ⌜ Inside of (now room) × (of .size ≡ 80) × placeOf seek (of .count) ⌝ }
+    ensures { λ r. ⌜ r ≡ overBlank (entryOf (entriesOf of (now (room .entry))) seek) ⌝ }
+{
+    match seek {
+        Seek::Missing(_) => Deed::Leave(super::NOTHING_HELD),
+        Seek::Found(i) => Deed::Wipe(entry_byte(room, of, i, 12)),
+    }
+}
+
+// What a line does, by what was found.
+fn decide(room: &[u8], f: Findings, notice: Notice, line: &[u8]) -> Deed
+    requires { ⌜ Placed (now room) f × (13 ≤ length (now line)) ⌝ }
+    ensures { λ r. ⌜ r ≡ decideBy (noticeKind notice) (now (line .entry)) (entryOf (entriesOf (f .deletions) (now (room .entry))) (f .in_deletions)) (entryOf (entriesOf (f .held) (now (room .entry))) (f .in_held)) ⌝ }
+{
+    let held = f.held;
+    let in_held = f.in_held;
+    let deletions = f.deletions;
+    let in_deletions = f.in_deletions;
+    match notice {
+        Notice::Event => {
+            if covered(room, deletions, in_deletions, line[12]) {
+                return Deed::Leave(super::OUTDATED);
+            }
+            over_held(room, held, in_held, line)
+        }
+        Notice::Delete => {
+            if covered(room, deletions, in_deletions, line[12]) {
+                return Deed::Leave(super::OUTDATED);
+            }
+            over_deleted(room, held, in_held, line[12])
+        }
+        Notice::Blank => over_blank(room, held, in_held),
+    }
+}
+
+fn declined(deed: Deed) -> Deed
+    ensures { λ r. ⌜ r ≡ declinedBy deed ⌝ }
+{
+    match deed {
+        Deed::Leave(n) => Deed::Leave(n),
+        Deed::Hold(_) => Deed::Leave(super::FULL),
+        Deed::Note(_) => Deed::Leave(super::FULL),
+        Deed::Wipe(_) => Deed::Leave(super::FULL),
+    }
+}
+
+// A new pair needs room.
+fn limited(named: usize, in_deletions: Seek, in_held: Seek, deed: Deed) -> Deed
+    ensures { λ r. ⌜ ((ds hs : List (List ℕ)) → r ≡ limitedTo named (entryOf ds in_deletions) (entryOf hs in_held) deed) ⌝ }
+{
+    match in_deletions {
+        Seek::Found(_) => deed,
+        Seek::Missing(_) => match in_held {
+            Seek::Found(_) => deed,
+            Seek::Missing(_) => {
+                if PAIRS <= named {
+                    return declined(deed);
+                }
+                deed
+            }
+        },
     }
 }
 
@@ -222,173 +261,127 @@ fn deletion(line: &[u8], v: u8) -> [u8; 11]
     ]
 }
 
-// The i-th held line is removed.
-fn remove_held(room: &mut [u8], i: usize)
-    requires { ⌜ Ordered (now room) × (i < length (contents (now room) .held)) ⌝ }
-    ensures { λ _. ⌜ now (room .exit) ≡ encode (withHeld (contents (now (room .entry))) (take i (contents (now (room .entry)) .held) ++ drop (i + 1) (contents (now (room .entry)) .held))) ++ drop 46596 (now (room .entry)) ⌝ }
+// The pair's deletion becomes a version; `seek` is its place among the deletions.
+fn note(room: &mut [u8], deletions: Section, seek: Seek, v: u8, line: &[u8])
+    requires { ⌜ Ordered (now room) × (deletions ≡ deletionsIn (now room)) × Notable (now room) (now line) v seek ⌝ }
+    ensures { λ _. ⌜ now (room .exit) ≡ encode (withDeletions (contents (now (room .entry))) (putIn deletionKey (deletionOf (now (line .entry)) v) (contents (now (room .entry)) .deletions))) ++ drop roomSize (now (room .entry)) ⌝ }
 {
-    let n = held(room);
-    let m = deletions(room, n);
-    super::splice::cut(room, 2 + 80 * i, 4 + 80 * n + 11 * m, 80);
-    super::splice::set_count(room, 0, n - 1);
-}
-
-// The deletion of the line's pair at version v goes in, or replaces the pair's deletion.
-fn put_deletion(room: &mut [u8], line: &[u8], v: u8)
-    requires { ⌜ Ordered (now room) × (13 ≤ length (now line)) × (length (put deletionKey (deletionOf (now line) v) (contents (now room) .deletions)) ≤ 512) ⌝ }
-    ensures { λ _. ⌜ now (room .exit) ≡ encode (withDeletions (contents (now (room .entry))) (put deletionKey (deletionOf (now (line .entry)) v) (contents (now (room .entry)) .deletions))) ++ drop 46596 (now (room .entry)) ⌝ }
-{
-    let n = held(room);
-    let m = deletions(room, n);
+    let used = end_of(room, deletions);
     let d = deletion(line, v);
-    match look_deletion(room, line) {
-        Seek::Found(j) => {
-            super::splice::copy_in(room, 4 + 80 * n + 11 * j, &d);
+    put(room, deletions, used, seek, &d);
+}
+
+// The pair's held line goes, and its deletion becomes a version. The room between the two is in order.
+fn wipe(room: &mut [u8], f: Findings, v: u8, line: &[u8])
+    requires { ⌜ Ordered (now room) × Known (now room) (now line) f × (deedOf (contents (now room)) (now line) ≡ Deed.Wipe v) ⌝ }
+    ensures { λ _. ⌜ now (room .exit) ≡ roomAfter (now (room .entry)) (now (line .entry)) ⌝ }
+{
+    let held = f.held;
+    let deletions = f.deletions;
+    let in_held = f.in_held;
+    let in_deletions = f.in_deletions;
+    let Seek::Found(i) = in_held else {
+        return;
+    };
+    let used = end_of(room, deletions);
+    take_out(room, held, used, i);
+    let rest = deletions_in(room, held_in(room));
+    note(room, rest, in_deletions, v, line);
+}
+
+// Does what was decided.
+fn carry_out(room: &mut [u8], f: Findings, deed: Deed, line: &[u8])
+    requires { ⌜ Ordered (now room) × Known (now room) (now line) f × (deed ≡ deedOf (contents (now room)) (now line)) ⌝ }
+    ensures { λ _. ⌜ now (room .exit) ≡ roomAfter (now (room .entry)) (now (line .entry)) ⌝ }
+{
+    let held = f.held;
+    let deletions = f.deletions;
+    let in_held = f.in_held;
+    let in_deletions = f.in_deletions;
+    match deed {
+        Deed::Leave(_) => {}
+        Deed::Hold(_) => {
+            let used = end_of(room, deletions);
+            put(room, held, used, in_held, line);
         }
-        Seek::Missing(j) => {
-            super::splice::splice(room, 4 + 80 * n + 11 * j, 4 + 80 * n + 11 * m, &d);
-            super::splice::set_count(room, 2 + 80 * n, m + 1);
+        Deed::Note(v) => {
+            note(room, deletions, in_deletions, v, line);
+        }
+        Deed::Wipe(v) => {
+            wipe(room, f, v, line);
         }
     }
 }
 
-// What a DE line does: an answer that changes nothing; its deletion alone is put; or the i-th held line is removed besides.
-pub enum Wipe {
-    Answer(u8),
-    Only,
-    Remove(usize),
-}
-
-// No deletion at or above the line.
-fn wipe_above(room: &[u8], line: &[u8]) -> Wipe
-    requires { ⌜ Ordered (now room) × (kind (now line) ≡ delete) ⌝ }
-    ensures { λ r. ⌜ Wiped r (contents (now (room .entry))) (now (line .entry)) (deleteAbove (contents (now (room .entry))) (now (line .entry)) (find key (key (now (line .entry))) (contents (now (room .entry)) .held))) ⌝ }
+fn answer_of(deed: Deed) -> u8
+    ensures { λ r. ⌜ r ≡ answered deed ⌝ }
 {
-    match look_held(room, line) {
-        Seek::Missing(_) => Wipe::Only,
-        Seek::Found(i) => {
-            if held_version(room, i) <= line[12] {
-                return Wipe::Remove(i);
-            }
-            Wipe::Only
-        }
+    match deed {
+        Deed::Leave(n) => n,
+        Deed::Hold(n) => n,
+        Deed::Note(_) => super::NOTED,
+        Deed::Wipe(_) => super::REMOVED,
     }
 }
 
-fn decide_delete(room: &[u8], line: &[u8]) -> Wipe
-    requires { ⌜ Ordered (now room) × (kind (now line) ≡ delete) ⌝ }
-    ensures { λ r. ⌜ Wiped r (contents (now (room .entry))) (now (line .entry)) (step (contents (now (room .entry))) (now (line .entry))) ⌝ }
+// One pair more where it was in no section.
+fn one_more(in_held: Seek, in_deletions: Seek, named: usize) -> usize
+    requires { ⌜ named ≤ 512 ⌝ }
+    ensures { λ r. ⌜ r ≡ oneMore in_held in_deletions named ⌝ }
 {
-    match look_deletion(room, line) {
-        Seek::Found(j) => {
-            if line[12] <= deletion_version(room, j) {
-                return Wipe::Answer(super::OUTDATED);
-            }
-            wipe_above(room, line)
-        }
-        Seek::Missing(_) => match look_held(room, line) {
-            Seek::Found(_) => wipe_above(room, line),
-            Seek::Missing(_) => {
-                if 512 <= named(room) {
-                    return Wipe::Answer(super::FULL);
-                }
-                Wipe::Only
-            }
+    match in_held {
+        Seek::Found(_) => named,
+        Seek::Missing(_) => match in_deletions {
+            Seek::Found(_) => named,
+            Seek::Missing(_) => named + 1,
         },
     }
 }
 
-// A DE line with a version, taken into a room in order.
-fn take_delete(room: &mut [u8], line: &[u8]) -> u8
-    requires { ⌜ Ordered (now room) × (kind (now line) ≡ delete) ⌝ }
-    ensures { λ r. ⌜ (r ≡ answerOf (now (room .entry)) (now (line .entry))) × (now (room .exit) ≡ roomAfter (now (room .entry)) (now (line .entry))) ⌝ }
+// How many pairs are named after a deed.
+fn named_after(deed: Deed, in_held: Seek, in_deletions: Seek, named: usize) -> usize
+    requires { ⌜ named ≤ 512 ⌝ }
+    ensures { λ r. ⌜ r ≡ namedAfter deed in_held in_deletions named ⌝ }
 {
-    match decide_delete(room, line) {
-        Wipe::Answer(k) => k,
-        Wipe::Only => {
-            put_deletion(room, line, line[12]);
-            super::NOTED
-        }
-        Wipe::Remove(i) => {
-            remove_held(room, i);
-            put_deletion(room, line, line[12]);
-            super::REMOVED
-        }
+    match deed {
+        Deed::Leave(_) => named,
+        Deed::Hold(_) => one_more(in_held, in_deletions, named),
+        Deed::Note(_) => one_more(in_held, in_deletions, named),
+        Deed::Wipe(_) => one_more(in_held, in_deletions, named),
     }
 }
 
-// A DE line with a blank version, taken into a room in order.
-fn take_blank(room: &mut [u8], line: &[u8]) -> u8
-    requires { ⌜ Ordered (now room) × (kind (now line) ≡ blank) ⌝ }
-    ensures { λ r. ⌜ (r ≡ answerOf (now (room .entry)) (now (line .entry))) × (now (room .exit) ≡ roomAfter (now (room .entry)) (now (line .entry))) ⌝ }
+// An acceptable line, taken into a room in order that names so many pairs.
+fn take_notice(room: &mut [u8], named: usize, notice: Notice, line: &[u8]) -> Taken
+    requires { ⌜ Ordered (now room) × (named ≡ namedOf (contents (now room))) × (kind (now line) ≡ noticeKind notice) ⌝ }
+    ensures { λ r. ⌜ Took (now (room .entry)) (now (line .entry)) (now (room .exit)) r ⌝ }
 {
-    match look_held(room, line) {
-        Seek::Missing(_) => super::NOTHING_HELD,
-        Seek::Found(i) => {
-            let v = held_version(room, i);
-            remove_held(room, i);
-            put_deletion(room, line, v);
-            super::REMOVED
-        }
+    let f = look_both(room, notice, line);
+    let in_held = f.in_held;
+    let in_deletions = f.in_deletions;
+    let deed = limited(named, in_deletions, in_held, decide(room, f, notice, line));
+    carry_out(room, f, deed, line);
+    Taken {
+        call: Call {
+            number: answer_of(deed),
+            column: 0,
+        },
+        named: named_after(deed, in_held, in_deletions, named),
     }
 }
 
-// What a line is to the catalogue, or its refusal.
-pub enum Sort {
-    Event,
-    Delete,
-    Blank,
-    Refused(u8, usize),
-}
-
-// What a record that is there is to the catalogue, by its kind and the version of a delete.
-fn sort_by(kind: u8, version: u8) -> Sort
-    ensures { λ r. ⌜ r ≡ sortBy kind version ⌝ }
-{
-    if kind == EVENT {
-        return Sort::Event;
-    }
-    if version == 32 {
-        return Sort::Blank;
-    }
-    Sort::Delete
-}
-
-// A line read goes on only when its record is there; otherwise the refusal passes up.
-fn sort_of(line: &[u8]) -> Sort
-    ensures { λ r. ⌜ r ≡ sortIn (readLine (now (line .entry))) ⌝ }
+// A line, taken into a room in order, which stays in order. No whole-room check is made; the pairs named are handed on.
+pub fn take_ordered(room: &mut [u8], named: usize, line: &[u8]) -> Taken
+    requires { ⌜ Ordered (now room) × (named ≡ namedOf (contents (now room))) ⌝ }
+    ensures { λ r. ⌜ Took (now (room .entry)) (now (line .entry)) (now (room .exit)) r ⌝ }
 {
     let got = read_line(line);
     let read = got.read;
-    let text = got.text;
     let Read::There(kind, _) = read else {
-        // What is not there was refused: the inner else is not reached.
-        let Read::Refused(number, column) = read else {
-            return Sort::Refused(0, 0);
+        return Taken {
+            call: refused(read),
+            named,
         };
-        return Sort::Refused(number, column);
     };
-    sort_by(kind, text[10])
-}
-
-// A line, taken into a room in order, which stays in order. No whole-room check is made.
-pub fn take_ordered(room: &mut [u8], line: &[u8]) -> Call
-    requires { ⌜ Ordered (now room) ⌝ }
-    ensures { λ r. ⌜ (r ≡ callOf (now (room .entry)) (now (line .entry))) × (now (room .exit) ≡ roomAfter (now (room .entry)) (now (line .entry))) × Ordered (now (room .exit)) ⌝ }
-{
-    match sort_of(line) {
-        Sort::Event => Call {
-            number: take_event(room, line),
-            column: 0,
-        },
-        Sort::Delete => Call {
-            number: take_delete(room, line),
-            column: 0,
-        },
-        Sort::Blank => Call {
-            number: take_blank(room, line),
-            column: 0,
-        },
-        Sort::Refused(number, column) => Call { number, column },
-    }
+    take_notice(room, named, notice_of(kind, line[12]), line)
 }

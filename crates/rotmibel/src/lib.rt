@@ -20,7 +20,7 @@ ghost use Rattle.formats.specs.PhaseRecord.{readPhaseInto, writePhaseFrom};
 ghost use Rattle.formats.specs.Block.{readBlock};
 ghost use Rattle.formats.specs.BlockWalk.{blockLine};
 ghost use Rattle.formats.specs.BlockWriting.{headerCall, recordCall};
-ghost use Rattle.catalogue.specs.Room.{answerOf, columnOf, roomAfter, orderOf};
+ghost use Rattle.catalogue.specs.Room.{callOf, roomAfter, orderOf};
 ghost use Rattle.catalogue.specs.LookUp.{lookUp};
 ghost use Rattle.rotmibel.specs.Answers.{parts, numberIn, small, lookedNumber, blockNumber, lineNumber, placeIn, lowColumn, Answered, AnsweredFrom};
 
@@ -73,7 +73,7 @@ pub extern "C" fn rotmibel_write_line(from: &[u8], out: &mut [u8]) -> u64
 // A line taken into a room.
 #[no_mangle]
 pub extern "C" fn rotmibel_take(room: &mut [u8], line: &[u8]) -> u64
-    ensures { λ r. ⌜ (r ≡ parts (answerOf (now (room .entry)) (now (line .entry))) (columnOf (now (room .entry)) (now (line .entry))) 0) × (now (room .exit) ≡ roomAfter (now (room .entry)) (now (line .entry))) ⌝ }
+    ensures { λ r. ⌜ (r ≡ parts (callOf (now (room .entry)) (now (line .entry)) .number) (callOf (now (room .entry)) (now (line .entry)) .column) 0) × (now (room .exit) ≡ roomAfter (now (room .entry)) (now (line .entry))) ⌝ }
 {
     let call = take_line(room, line);
     parts_of(call.number, call.column, 0)

@@ -3,9 +3,11 @@ use Prim.Native.Nat.{ℕ, _+_, _-_, _≤_, _<_}
 use mathlib.Core.Path.{_≡_}
 use mathlib.Core.List.{List, _++_}
 use lib.ListN.{length, take, drop}
+use Rattle.catalogue.specs.Catalogue.{named}
 use Rattle.catalogue.specs.Ordered.{Ordered}
 use Rattle.catalogue.specs.Room.{callOf, roomAfter, contents}
 use Rattle.take.specs.declared.session.Progress.{Progress}
+use Rattle.take.specs.declared.session.Said.{Said}
 use Rattle.take.specs.declared.stream.Input.{Input}
 use Rattle.take.specs.declared.stream.Input.the-variants.{Bytes, End, Failed}
 use Rattle.take.specs.Text.{Put, answerLine, catalogueText}
@@ -22,6 +24,7 @@ mostLines = 9223372036854775808
 -- what holds between the steps
 pub record Sound (room line out : List ℕ) (p : Progress) : Type 0 where
   pub ordered : Ordered room
+  pub named-are : p .named ≡ named (contents room)
   pub line-size : length line ≡ 1024
   pub line-fits : p .len ≤ 1024
   pub out-size : length out ≡ 65536
@@ -32,11 +35,12 @@ abbrev pub between : ℕ → ℕ → List ℕ → List ℕ
 between from to chunk = take (to - from) (drop from chunk)
 
 -- the line l is taken into the room, and its answer put, in at most 63 bytes
-pub record Answered (room out : List ℕ) (at number : ℕ) (l room' out' : List ℕ) (next : ℕ) : Type 0 where
+pub record Answered (room out : List ℕ) (at number : ℕ) (l room' out' : List ℕ) (s : Said) : Type 0 where
   pub taken : room' ≡ roomAfter room l
   pub ordered : Ordered room'
-  pub put : Put out at (answerLine number (callOf room l)) out' next
-  pub short : next ≤ at + 63
+  pub named-are : s .named ≡ named (contents room')
+  pub put : Put out at (answerLine number (callOf room l)) out' (s .at)
+  pub short : s .at ≤ at + 63
 
 -- one line, or what has come of it: the session is the one after the bytes passed, and what they have said is put
 pub record Stepped (room line out chunk : List ℕ) (p : Progress) (room' line' out' : List ℕ) (q : Progress) : Type 0 where
@@ -74,6 +78,7 @@ pub record Emptied (p q : Progress) : Type 0 where
   pub from : q .from ≡ p .from
   pub len : q .len ≡ p .len
   pub number : q .number ≡ p .number
+  pub named : q .named ≡ p .named
 
 -- how many bytes a read brought
 abbrev pub broughtBy : Input → ℕ

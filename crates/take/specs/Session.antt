@@ -5,7 +5,7 @@ use lib.Dec.{eqb}
 use lib.ListN.{length, take, replicate}
 use Rattle.columns.specs.Answer.{pick}
 use Rattle.formats.specs.Lines.{newline, linesOf}
-use Rattle.catalogue.specs.Room.{callOf, roomAfter, contents, feed}
+use Rattle.catalogue.specs.Room.{roomSize, callOf, roomAfter, contents, feed}
 use Rattle.take.specs.Text.{heading, answerLine, answers, catalogueText}
 
 -- a line past 1,024 bytes answers as its first 1,024 do
@@ -56,5 +56,5 @@ opened room = record { room = room; line = []; number = 0 }
 -- chunks, and is closed has said this between the heading and its catalogue
 unfoldable pub printed : List ℕ → List ℕ
 printed input =
-    heading ++ (answers 0 (replicate 46596 0) (map cut (linesOf input))
-    ++ catalogueText (contents (feed (replicate 46596 0) (map cut (linesOf input)))))
+    heading ++ (answers 0 (replicate roomSize 0) (map cut (linesOf input))
+    ++ catalogueText (contents (feed (replicate roomSize 0) (map cut (linesOf input)))))

@@ -1,18 +1,26 @@
 -- What the program prints, as bytes, and what it means that bytes are put at a place. Document 01, "The program".
-use Prim.Native.Nat.{ℕ, zero, suc, _+_, _/_, _%_}
+use Prim.Native.Nat.{ℕ, zero, suc, _+_, _/_, _%_, _≤_}
 use mathlib.Core.Path.{_≡_}
 use mathlib.Core.List.{List, [], _∷_, _++_}
 use lib.Dec.{ltb}
 use lib.ListN.{length, take}
 use Rattle.columns.specs.Answer.{pick}
 use Rattle.catalogue.specs.declared.Call.{Call}
+use Rattle.catalogue.specs.declared.section.Section.{Section}
 use Rattle.catalogue.specs.Catalogue.{Catalogue}
 use Rattle.catalogue.specs.Room.{callOf, roomAfter}
+use Rattle.catalogue.specs.Entries.{Inside}
 
 -- the bytes s stand in `after` from `at` on, behind the bytes that stood before `at`; `next` is the place after them
 pub record Put (before : List ℕ) (at : ℕ) (s after : List ℕ) (next : ℕ) : Type 0 where
   pub place : next ≡ at + length s
   pub bytes : take next after ≡ take at before ++ s
+
+-- a section of a room that can be printed: it lies in the room, and is small enough
+pub record Printable (of : Section) (room : List ℕ) : Type 0 where
+  pub inside : Inside of room
+  pub small : of .size ≤ 256
+  pub few : of .count ≤ 512
 
 -- a number's decimal digits, at most k of them
 unfoldable pub digits : ℕ → ℕ → List ℕ

@@ -4,7 +4,7 @@ mod stream;
 mod text;
 
 fn main() {
-    let mut room = [0u8; 46596];
+    let mut room = [0u8; catalogue::ROOM];
     let mut line = [0u8; 1024];
     let mut chunk = io::large_buffer();
     let mut out = io::large_buffer();

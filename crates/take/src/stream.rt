@@ -10,6 +10,8 @@ use libc::STDOUT_FILENO;
 ghost use mathlib.Core.Path.{_≡_};
 ghost use Prim.Native.Nat.{_+_, _≤_};
 ghost use lib.ListN.{length, take, drop};
+ghost use Rattle.catalogue.specs.Catalogue.{named};
+ghost use Rattle.catalogue.specs.Room.{contents};
 ghost use Rattle.catalogue.specs.Ordered.{Ordered};
 ghost use Rattle.take.specs.Progress.{mostLines, Sound, Taken, Passed, Finished, Emptied, broughtBy};
 
@@ -27,6 +29,7 @@ fn emptied(p: Progress, failed: bool) -> Progress
         from: p.from,
         len: p.len,
         number: p.number,
+        named: p.named,
         at: 0,
         failed,
     }
@@ -148,6 +151,7 @@ fn read_next(
                 from: 0,
                 len: p.len,
                 number: p.number,
+                named: p.named,
                 at: p.at,
                 failed: p.failed,
             };
@@ -198,6 +202,7 @@ fn finish(room: &mut [u8], line: &[u8], out: &mut [u8], p: Progress) -> usize
             from: r.from,
             len: r.len,
             number: r.number,
+            named: r.named,
             at,
             failed: r.failed,
         },
@@ -208,7 +213,7 @@ fn finish(room: &mut [u8], line: &[u8], out: &mut [u8], p: Progress) -> usize
 // The whole run: the heading, each line's answer, the catalogue. Where reading or writing fails, standard error says so, and the
 // catalogue is not printed.
 pub fn run(room: &mut [u8], line: &mut [u8], chunk: &mut [u8], out: &mut [u8])
-    requires { ⌜ Ordered (now room) × (length (now line) ≡ 1024) × (length (now chunk) ≡ 65536) × (length (now out) ≡ 65536) ⌝ }
+    requires { ⌜ Ordered (now room) × (named (contents (now room)) ≡ 0) × (length (now line) ≡ 1024) × (length (now chunk) ≡ 65536) × (length (now out) ≡ 65536) ⌝ }
     ensures { λ _. ⌜ Ordered (now (room .exit)) ⌝ }
 {
     let first = begin(out);

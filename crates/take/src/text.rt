@@ -1,15 +1,18 @@
 // Text put into a lent buffer: each call puts its bytes at a place and answers the place after them.
 use catalogue::Call;
+use catalogue::room::deletions_in;
+use catalogue::room::held_in;
+use catalogue::section::Section;
+use catalogue::section::entry_at;
 use catalogue::splice::copy_in;
-use catalogue::take::deletions;
-use catalogue::take::held;
 ghost use mathlib.Core.Path.{_≡_};
 ghost use mathlib.Core.List.{[], _∷_};
 ghost use Prim.Native.Nat.{_+_, _*_, _^_, _≤_, _<_};
-ghost use lib.ListN.{length, drop};
+ghost use lib.ListN.{length};
 ghost use Rattle.catalogue.specs.Ordered.{Ordered};
-ghost use Rattle.catalogue.specs.Room.{rows, contents};
-ghost use Rattle.take.specs.Text.{Put, digits, decimal, answerLine, rowLines, section, catalogueText};
+ghost use Rattle.catalogue.specs.Room.{contents};
+ghost use Rattle.catalogue.specs.Entries.{entriesOf};
+ghost use Rattle.take.specs.Text.{Put, Printable, digits, decimal, answerLine, rowLines, section, catalogueText};
 
 const NEWLINE: u8 = 10;
 
@@ -68,16 +71,16 @@ pub fn put_answer(out: &mut [u8], at: usize, number: u64, call: Call) -> usize
     put_byte(out, e, NEWLINE)
 }
 
-// The rows of one section, each on a line of its own.
-fn put_rows(out: &mut [u8], at: usize, room: &[u8], base: usize, width: usize, n: usize) -> usize
-    requires { ⌜ (at + (width + 1) * n ≤ length (now out)) × (base + width * n ≤ length (now room)) × (width ≤ 80) × (n ≤ 512) ⌝ }
-    ensures { λ r. ⌜ Put (now (out .entry)) at (rowLines (rows n width (drop base (now (room .entry))))) (now (out .exit)) r × (r ≡ at + (width + 1) * n) ⌝ }
+// The entries of a section, each on a line of its own.
+fn put_entries(out: &mut [u8], at: usize, room: &[u8], of: Section) -> usize
+    requires { ⌜ Printable of (now room) × (at + (of .size + 1) * of .count ≤ length (now out)) ⌝ }
+    ensures { λ r. ⌜ Put (now (out .entry)) at (rowLines (entriesOf of (now (room .entry)))) (now (out .exit)) r × (r ≡ at + (of .size + 1) * of .count) ⌝ }
 {
     let mut to = at;
     let mut i = 0;
-    while i < n {
-        let from = base + width * i;
-        let end = from + width;
+    while i < of.count {
+        let from = entry_at(room, of, i);
+        let end = from + of.size;
         to = put_bytes(out, to, &room[from..end]);
         to = put_byte(out, to, NEWLINE);
         i += 1;
@@ -85,23 +88,15 @@ fn put_rows(out: &mut [u8], at: usize, room: &[u8], base: usize, width: usize, n
     to
 }
 
-// A section: its title and count, then its rows.
-fn put_section(
-    out: &mut [u8],
-    at: usize,
-    title: &[u8],
-    room: &[u8],
-    base: usize,
-    width: usize,
-    n: usize,
-) -> usize
-    requires { ⌜ (at + length (now title) + 21 + (width + 1) * n ≤ length (now out)) × (base + width * n ≤ length (now room)) × (width ≤ 80) × (n ≤ 512) ⌝ }
-    ensures { λ r. ⌜ Put (now (out .entry)) at (section (now (title .entry)) (rows n width (drop base (now (room .entry))))) (now (out .exit)) r × (r ≤ at + length (now (title .entry)) + 21 + (width + 1) * n) ⌝ }
+// A section: its title and count, then its entries.
+fn put_section(out: &mut [u8], at: usize, title: &[u8], room: &[u8], of: Section) -> usize
+    requires { ⌜ Printable of (now room) × (at + length (now title) + 21 + (of .size + 1) * of .count ≤ length (now out)) ⌝ }
+    ensures { λ r. ⌜ Put (now (out .entry)) at (section (now (title .entry)) (entriesOf of (now (room .entry)))) (now (out .exit)) r × (r ≤ at + length (now (title .entry)) + 21 + (of .size + 1) * of .count) ⌝ }
 {
     let a = put_bytes(out, at, title);
-    let b = put_number(out, a, n as u64);
+    let b = put_number(out, a, of.count as u64);
     let c = put_byte(out, b, NEWLINE);
-    put_rows(out, c, room, base, width, n)
+    put_entries(out, c, room, of)
 }
 
 // The held lines, then the deletions: at most 47,671 bytes.
@@ -109,8 +104,8 @@ pub fn put_catalogue(out: &mut [u8], room: &[u8]) -> usize
     requires { ⌜ Ordered (now room) × (47671 ≤ length (now out)) ⌝ }
     ensures { λ r. ⌜ Put (now (out .entry)) 0 (catalogueText (contents (now (room .entry)))) (now (out .exit)) r × (r ≤ 47671) ⌝ }
 {
-    let n = held(room);
-    let m = deletions(room, n);
-    let at = put_section(out, 0, b"held ", room, 2, 80, n);
-    put_section(out, at, b"deleted ", room, 4 + 80 * n, 11, m)
+    let held = held_in(room);
+    let deletions = deletions_in(room, held);
+    let at = put_section(out, 0, b"held ", room, held);
+    put_section(out, at, b"deleted ", room, deletions)
 }

@@ -1,7 +1,7 @@
 use native.Mathlib.Omega.{arith}
 use mathlib.Core.Path.{ap, _∙_}
 use Rattle.catalogue.specs.declared.Looked.{Looked}
-use Rattle.catalogue.proofs.laws.Answered.{place-low}
+use Rattle.catalogue.proofs.laws.room.Answered.{place-low}
 use Rattle.rotmibel.specs.Answers.{lookedNumber}
 use borrow.Author.Needs.{needs}
 use Rattle.rotmibel.proofs.rotmibel_look_up.Statement.{statement}

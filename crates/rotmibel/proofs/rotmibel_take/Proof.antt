@@ -1,7 +1,7 @@
 use native.Mathlib.Omega.{arith}
 use mathlib.Core.Path.{ap, _∙_}
 use Rattle.catalogue.specs.declared.Call.{Call}
-use Rattle.catalogue.proofs.laws.Answered.{column-low}
+use Rattle.catalogue.proofs.laws.room.Answered.{column-low}
 use Rattle.rotmibel.specs.Answers.{parts}
 use borrow.Author.Needs.{needs}
 use Rattle.rotmibel.proofs.rotmibel_take.Statement.{statement}

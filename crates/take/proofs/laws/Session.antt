@@ -10,7 +10,7 @@ use borrow.Author.Tests.{eq-eqb, ne-eqb}
 use Rattle.columns.specs.Answer.{pick}
 use Rattle.formats.specs.Lines.{lineEnd}
 use Rattle.formats.proofs.laws.Lines.{line-end-from, line-end-to, line-end-newline, line-end-other}
-use Rattle.catalogue.proofs.laws.Tri.{le, gt, le?, eq, ne, eq?}
+use Rattle.catalogue.proofs.laws.assoc.Tri.{le, gt, le?, eq, ne, eq?}
 use Rattle.take.specs.Session.{cut, Session, ended, endedSaid, grown, byte, bytes, said, closed, closedSaid}
 
 -- ---- the bytes in parts

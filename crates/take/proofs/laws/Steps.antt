@@ -7,6 +7,7 @@ use lib.ListN.{length, take, drop, length-append, length-take, take-append-drop,
 use lib.Seq.{take-append-add, length-take-le, drop-drop}
 use Rattle.formats.specs.Lines.{lineEnd}
 use Rattle.catalogue.specs.Room.{callOf, roomAfter}
+use Rattle.take.specs.declared.session.Said.{Said}
 use Rattle.take.specs.declared.session.Progress.{Progress}
 use Rattle.take.specs.Text.{Put, answerLine}
 use Rattle.take.specs.Session.{cut, Session, ended, endedSaid, grown, bytes}
@@ -40,7 +41,7 @@ module _ (room line out chunk : List ℕ) (p : Progress) (sound : Sound room lin
     (end : ℕ) (is : end ≡ lineEnd chunk (p .from)) (onward : p .from ≤ end) (within : end ≤ length chunk) where
   pub kept : {line' : List ℕ} {k : ℕ} → end ≡ length chunk → length line' ≡ length line → k ≤ 1024
       → take k line' ≡ cut (take (p .len) line ++ take (end - p .from) (drop (p .from) chunk))
-      → Stepped room line out chunk p room line' out (record { from = end; len = k; number = p .number; at = p .at; failed = p .failed })
+      → Stepped room line out chunk p room line' out (record { from = end; len = k; number = p .number; named = p .named; at = p .at; failed = p .failed })
   unfolding grown
   kept {line'} {k} last size fits e =
       let q : lineEnd chunk (p .from) ≡ p .from + (end - p .from) = sym is ∙ omega arith in
@@ -48,6 +49,7 @@ module _ (room line out chunk : List ℕ) (p : Progress) (sound : Sound room lin
       record {
         sound = record {
           ordered = sound .ordered;
+          named-are = sound .named-are;
           line-size = size ∙ sound .line-size;
           line-fits = fits;
           out-size = sound .out-size;
@@ -60,15 +62,16 @@ module _ (room line out chunk : List ℕ) (p : Progress) (sound : Sound room lin
         counted = omega arith;
       }
 
-  pub answered : {room' line' out' : List ℕ} {at : ℕ} → (end ≡ length chunk → ⊥) → p .at + 63 ≤ 65536 → length line' ≡ length line → length out' ≡ length out
-      → Answered room out (p .at) (p .number + 1) (cut (take (p .len) line ++ between (p .from) end chunk)) room' out' at
-      → Stepped room line out chunk p room' line' out' (record { from = end + 1; len = 0; number = p .number + 1; at = at; failed = p .failed })
+  pub answered : {room' line' out' : List ℕ} {s : Said} → (end ≡ length chunk → ⊥) → p .at + 63 ≤ 65536 → length line' ≡ length line → length out' ≡ length out
+      → Answered room out (p .at) (p .number + 1) (cut (take (p .len) line ++ between (p .from) end chunk)) room' out' s
+      → Stepped room line out chunk p room' line' out' (record { from = end + 1; len = 0; number = p .number + 1; named = s .named; at = s .at; failed = p .failed })
   unfolding grown ended endedSaid
-  answered {room'} {line'} {out'} {at} more space size osize a =
+  answered {room'} {line'} {out'} {s} more space size osize a =
       let g : Ended chunk (sessionOf room line p) (p .from) end = line-ended chunk (sessionOf room line p) (p .from) end (session-fits p sound) onward (omega arith) is in
       record {
         sound = record {
           ordered = a .ordered;
+          named-are = a .named-are;
           line-size = size ∙ sound .line-size;
           line-fits = omega arith;
           out-size = osize ∙ sound .out-size;
@@ -81,7 +84,7 @@ module _ (room line out chunk : List ℕ) (p : Progress) (sound : Sound room lin
         counted = omega arith;
       }
 
-pub answered-as : {room out room' out' l m : List ℕ} {at number next : ℕ} → l ≡ m → Answered room out at number l room' out' next → Answered room out at number m room' out' next
+pub answered-as : {room out room' out' l m : List ℕ} {at number : ℕ} {next : Said} → l ≡ m → Answered room out at number l room' out' next → Answered room out at number m room' out' next
 answered-as {room} {out} {room'} {out'} {l} {m} {at} {number} {next} e a = subst (λ (x : List ℕ). Answered room out at number x room' out' next) e a
 
 -- a line of which nothing was kept
@@ -98,6 +101,7 @@ module _ (room line : List ℕ) {p q : Progress} (e : Emptied p q) where
   emptied-sound out s h =
       record {
         ordered = s .ordered;
+        named-are = e .named ∙ s .named-are;
         line-size = s .line-size;
         line-fits = omega (arith, e .len, s .line-fits);
         out-size = s .out-size;
@@ -121,8 +125,8 @@ unfolding bytes
 chunk-end s chunk from h = ap (bytes s) (drop-of-length-le chunk h)
 
 -- a chunk is taken from its first byte
-pub restarted : {room line out : List ℕ} {p : Progress} → Sound room line out p → Sound room line out (record { from = 0; len = p .len; number = p .number; at = p .at; failed = p .failed })
-restarted s = record { ordered = s .ordered; line-size = s .line-size; line-fits = s .line-fits; out-size = s .out-size; out-fits = s .out-fits }
+pub restarted : {room line out : List ℕ} {p : Progress} → Sound room line out p → Sound room line out (record { from = 0; len = p .len; number = p .number; named = p .named; at = p .at; failed = p .failed })
+restarted s = record { ordered = s .ordered; named-are = s .named-are; line-size = s .line-size; line-fits = s .line-fits; out-size = s .out-size; out-fits = s .out-fits }
 
 -- ---- the input so far
 
@@ -159,17 +163,18 @@ module _ (room line out : List ℕ) (p : Progress) (sound : Sound room line out 
         text = sym (append-nil (take (p .at) out)) ∙ ap (λ (x : List ℕ). take (p .at) out ++ x) (sym (c .1));
       }
 
-  pub end-some : {room' out' : List ℕ} {at : ℕ} → (p .len ≡ 0 → ⊥) → p .at + 63 ≤ 65536 → length out' ≡ length out
-      → Answered room out (p .at) (p .number + 1) (take (p .len - 0) line) room' out' at
-      → Closed room line out p room' out' (record { from = p .from; len = 0; number = p .number + 1; at = at; failed = p .failed })
+  pub end-some : {room' out' : List ℕ} {s : Said} → (p .len ≡ 0 → ⊥) → p .at + 63 ≤ 65536 → length out' ≡ length out
+      → Answered room out (p .at) (p .number + 1) (take (p .len - 0) line) room' out' s
+      → Closed room line out p room' out' (record { from = p .from; len = 0; number = p .number + 1; named = s .named; at = s .at; failed = p .failed })
   unfolding ended endedSaid
-  end-some {room'} {out'} {at} h space osize a =
+  end-some {room'} {out'} {s} h space osize a =
       let e : p .len - 0 ≡ p .len = omega arith in
       let n : length (take (p .len) line) ≡ p .len = length-take-le (p .len) line (omega (arith, sound .line-size, sound .line-fits)) in
       let c = closed-some (sessionOf room line p) (λ (z : length (take (p .len) line) ≡ 0). h (sym n ∙ z)) in
       record {
         sound = record {
           ordered = a .ordered;
+          named-are = a .named-are;
           line-size = sound .line-size;
           line-fits = omega arith;
           out-size = osize ∙ sound .out-size;

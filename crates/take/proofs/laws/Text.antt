@@ -1,20 +1,24 @@
 -- Laws of the text that is put: one part behind another, a number's digits, rows on lines.
 use Prim.Native.Nat.{ℕ, zero, suc, _+_, _*_, _-_, _/_, _%_, _^_, _≤_, _<_}
-use mathlib.Core.Path.{_≡_, refl, _∙_, ap, subst}
+use mathlib.Core.Path.{_≡_, refl, sym, _∙_, ap, subst}
 use mathlib.Core.Bool.{Bool, true, false}
 use mathlib.Core.List.{List, [], _∷_, _++_, append-nil, append-assoc}
-use native.Mathlib.Nat.{pow-suc, mul-le-mul-left}
+use native.Mathlib.Nat.{pow-suc}
 use native.Mathlib.Omega.{arith}
 use lib.Dec.{ltb}
-use lib.ListN.{length, take, drop, set, length-append}
-use lib.Seq.{length-take-le, take-length, take-suc-set, take-paste, paste}
+use lib.ListN.{length, take, drop, getD, set, length-append, drop-of-length-le}
+use lib.Seq.{drop-cons, length-take-le, take-length, take-suc-set, take-paste, paste}
 use native.Mathlib.Numerals.{add-one}
 use borrow.Author.Tests.{lt-ltb, le-ltb}
 use Rattle.columns.specs.Answer.{pick}
-use Rattle.catalogue.specs.Room.{rows}
-use Rattle.catalogue.proofs.laws.Back.{rows-length}
-use Rattle.catalogue.proofs.laws.OrderRows.{rows-cons, part-row, row-length}
-use Rattle.take.specs.Text.{Put, digits, decimal, rowLines}
+use Rattle.catalogue.specs.declared.section.Section.{Section}
+use Rattle.catalogue.specs.Entries.{entriesOf, Inside}
+use Rattle.catalogue.specs.Ordered.{Ordered}
+use Rattle.catalogue.specs.Room.{contents}
+use Rattle.catalogue.specs.Places.{heldIn, deletionsIn}
+use Rattle.catalogue.proofs.laws.room.Places.{few, held-inside, deletion-inside, held-entries, deletion-entries}
+use Rattle.catalogue.proofs.laws.section.Rows.{row-inside, entries-length, entry-length, entry-part}
+use Rattle.take.specs.Text.{Put, Printable, digits, decimal, rowLines}
 
 -- ---- parts put one behind another
 
@@ -87,41 +91,42 @@ tenth zero n h e f = absurd (omega arith)
 tenth (suc zero) n h e f = absurd (omega (arith, pow-suc 10 0))
 tenth (suc (suc k)) n h e f = let g : suc (suc k) - 1 ≡ suc k = omega arith in rw g (omega (arith, pow-suc 10 (suc k)), omega arith)
 
--- ---- rows
+-- ---- entries, each on a line of its own
 
-pub rows-start : (s : List ℕ) (base w n : ℕ) (x : List ℕ) → x ++ rowLines (rows (n - 0) w (drop (base + w * 0) s)) ≡ x ++ rowLines (rows n w (drop base s))
-rows-start s base w n x = let e : n - 0 ≡ n = omega arith in let f : base + w * 0 ≡ base = omega arith in rw (e, f)
-
-rows-turn : (s : List ℕ) (base w n i : ℕ) (x : List ℕ) → i < n
-    → (x ++ (take w (drop (base + w * i) s) ++ (10 ∷ []))) ++ rowLines (rows (n - (i + 1)) w (drop (base + w * (i + 1)) s))
-    ≡ x ++ rowLines (rows (n - i) w (drop (base + w * i) s))
+lines-next : (xs : List (List ℕ)) (i : ℕ) → i < length xs → rowLines (drop i xs) ≡ getD xs i [] ++ (10 ∷ rowLines (drop (i + 1) xs))
 unfolding rowLines
-rows-turn s base w n i x h = rw (rows-cons s base w n i h) (simp append-assoc)
+lines-next xs i h = rw (add-one, drop-cons xs i [] h)
 
-pub row-fits : (w i n : ℕ) → i < n → w * i + w ≤ w * n
-row-fits w i n h = let e : w * (i + 1) ≤ w * n = mul-le-mul-left w (omega arith) in omega arith
+pub lines-end : (xs : List (List ℕ)) (i : ℕ) (x : List ℕ) → length xs ≤ i → x ++ rowLines (drop i xs) ≡ x
+unfolding rowLines
+lines-end xs i x h = rw (drop-of-length-le xs {i = i} h) (append-nil x)
 
--- one row, and the newline after it
-module _ (s : List ℕ) (base w n i : ℕ) (h : i < n) (fits : base + w * n ≤ length s) where
-  pub row-size : length (take (base + w * i + w - (base + w * i)) (drop (base + w * i) s)) ≡ w
-  row-size = ap length (part-row s (base + w * i) w) ∙ row-length s (base + w * i) w (omega (arith, row-fits w i n h))
+pub entry-fits : (w i n : ℕ) → i < n → w * i + w ≤ w * n
+entry-fits w i n h = row-inside w i n h
 
-  pub row-turn : {a b c : List ℕ} {to m r : ℕ} (x : List ℕ) → Put a to (take (base + w * i + w - (base + w * i)) (drop (base + w * i) s)) b m → Put b m (10 ∷ []) c r
-      → take to a ++ rowLines (rows (n - i) w (drop (base + w * i) s)) ≡ x
-      → (take r c ++ rowLines (rows (n - (i + 1)) w (drop (base + w * (i + 1)) s)) ≡ x) × (r ≡ to + w + 1)
-  row-turn {a} {b} {c} {to} {m} {r} x p q e = (
-    ap (λ (y : List ℕ). y ++ rowLines (rows (n - (i + 1)) w (drop (base + w * (i + 1)) s)))
-        (put-more p q .bytes ∙ ap (λ (y : List ℕ). take to a ++ (y ++ (10 ∷ []))) (part-row s (base + w * i) w))
-        ∙ rows-turn s base w n i (take to a) h ∙ e,
-    omega (arith, p .place, q .place, row-size),
+joined : (x y z : List ℕ) → (x ++ (y ++ (10 ∷ []))) ++ z ≡ x ++ (y ++ (10 ∷ z))
+joined x y z = simp append-assoc
+
+-- one entry, and the newline after it
+module _ (of : Section) (s : List ℕ) (f : Inside of s) (i : ℕ) (h : i < of .count) (from : ℕ) (at : from ≡ of .at + 2 + of .size * i) where
+  pub entry-size : length (take (from + of .size - from) (drop from s)) ≡ of .size
+  entry-size = ap length (entry-part of s i h (of .size) refl from at) ∙ entry-length of s f i h
+
+  pub entry-turn : {a b c : List ℕ} {to m r : ℕ} (x : List ℕ) → Put a to (take (from + of .size - from) (drop from s)) b m → Put b m (10 ∷ []) c r
+      → take to a ++ rowLines (drop i (entriesOf of s)) ≡ x → (take r c ++ rowLines (drop (i + 1) (entriesOf of s)) ≡ x) × (r ≡ to + of .size + 1)
+  entry-turn {a} {b} {c} {to} {m} {r} x p q e = (
+    ap (λ (y : List ℕ). y ++ rowLines (drop (i + 1) (entriesOf of s)))
+        (put-more p q .bytes ∙ ap (λ (y : List ℕ). take to a ++ (y ++ (10 ∷ []))) (entry-part of s i h (of .size) refl from at))
+        ∙ joined (take to a) (getD (entriesOf of s) i []) (rowLines (drop (i + 1) (entriesOf of s)))
+        ∙ ap (λ (y : List ℕ). take to a ++ y) (sym (lines-next (entriesOf of s) i (omega (arith, entries-length of s)))) ∙ e,
+    omega (arith, p .place, q .place, entry-size),
   )
 
-none-lines : (xs : List (List ℕ)) → length xs ≡ 0 → rowLines xs ≡ []
-unfolding rowLines
-none-lines [] e = refl
-none-lines (x ∷ xs) e = absurd (omega (arith, e))
+-- ---- the sections of a room in order
 
-pub rows-end : (s : List ℕ) (base w n i : ℕ) (x : List ℕ) → n ≤ i → x ++ rowLines (rows (n - i) w (drop (base + w * i) s)) ≡ x
-rows-end s base w n i x h =
-    ap (λ (y : List ℕ). x ++ y) (none-lines (rows (n - i) w (drop (base + w * i) s)) (rows-length (n - i) w (drop (base + w * i) s) ∙ omega arith))
-    ∙ append-nil x
+module _ (r : List ℕ) (o : Ordered r) where
+  pub held-printable : (s : Section) → s ≡ heldIn r → Printable s r × ((s .size + 1) * s .count ≤ 81 * 512) × (entriesOf s r ≡ contents r .held)
+  held-printable s e = rw e (record { inside = held-inside r o; small = omega arith; few = few r o .0 }, omega (arith, few r o .0), held-entries r o)
+
+  pub deletions-printable : (s : Section) → s ≡ deletionsIn r → Printable s r × ((s .size + 1) * s .count ≤ 12 * 512) × (entriesOf s r ≡ contents r .deletions)
+  deletions-printable s e = rw e (record { inside = deletion-inside r o; small = omega arith; few = few r o .1 }, omega (arith, few r o .1), deletion-entries r o)

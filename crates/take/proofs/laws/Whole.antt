@@ -7,9 +7,9 @@ use lib.ListN.{length, take, drop, getD, replicate, length-take, length-drop, ta
 use lib.Seq.{drop-cons, drop-drop}
 use Rattle.formats.specs.Lines.{linesOf, lineEnd}
 use Rattle.formats.proofs.laws.Lines.{lines-none, lines-next, line-end-from, line-end-to}
-use Rattle.catalogue.specs.Room.{roomAfter, contents, feed}
-use Rattle.catalogue.proofs.laws.Feed.{feed-none, feed-more}
-use Rattle.catalogue.proofs.laws.Tri.{le, gt, le?}
+use Rattle.catalogue.specs.Room.{roomSize, roomAfter, contents, feed}
+use Rattle.catalogue.proofs.laws.demand.Feed.{feed-none, feed-more}
+use Rattle.catalogue.proofs.laws.assoc.Tri.{le, gt, le?}
 use Rattle.take.specs.Text.{heading, answers, catalogueText}
 use Rattle.take.specs.Session.{cut, Session, ended, endedSaid, grown, bytes, said, closed, closedSaid, opened, printed}
 use Rattle.take.proofs.laws.Session.{bytes-append, said-append, byte-newline, said-newline, Grown, line-grown, newline-at, closed-none, closed-some}
@@ -123,10 +123,10 @@ module _ (t : List ℕ) where
 
 -- what the program prints is what the session has said, between the heading and the catalogue
 pub all-printed : (input : List ℕ)
-    → heading ++ ((said (opened (replicate 46596 0)) input ++ closedSaid (bytes (opened (replicate 46596 0)) input))
-    ++ catalogueText (contents (closed (bytes (opened (replicate 46596 0)) input) .room)))
+    → heading ++ ((said (opened (replicate roomSize 0)) input ++ closedSaid (bytes (opened (replicate roomSize 0)) input))
+    ++ catalogueText (contents (closed (bytes (opened (replicate roomSize 0)) input) .room)))
     ≡ printed input
 unfolding opened printed
 all-printed input =
-    let r = rest input (length input) 0 (replicate 46596 0) 0 (omega arith) in
+    let r = rest input (length input) 0 (replicate roomSize 0) 0 (omega arith) in
     ap₂ (λ (x y : List ℕ). heading ++ (x ++ catalogueText (contents y))) (r .text-is) (r .room-is)

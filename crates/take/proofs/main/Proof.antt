@@ -1,5 +1,5 @@
 use Prim.Native.Nat.{ℕ, _-_}
-use Rattle.catalogue.proofs.laws.View.{zeroed-ordered}
+use Rattle.catalogue.proofs.laws.room.Encode.{zeroed-ordered, zeroed-named}
 use lib.ListN.{length-replicate}
 use mathlib.Core.Path.{sym}
 use borrow.Author.Needs.{needs}
@@ -25,7 +25,7 @@ slice-aggregate-run-4 : tie.Need-slice-aggregate-run-4
 slice-aggregate-run-4 c = search needs
 
 run-requires : tie.Need-run-requires
-run-requires c κs = (zeroed-ordered, length-replicate {A = ℕ} 1024 0, sym (c .before .before .before .before .before .large-buffer .ensures), sym (c .before .before .before .before .large-buffer2 .ensures))
+run-requires c κs = (zeroed-ordered, zeroed-named, length-replicate {A = ℕ} 1024 0, sym (c .before .before .before .before .before .large-buffer .ensures), sym (c .before .before .before .before .large-buffer2 .ensures))
 
 returns : tie.Need-returns
 returns c = search needs

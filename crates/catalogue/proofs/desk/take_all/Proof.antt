@@ -1,64 +1,64 @@
+-- What is left to take gives what the whole gives.
 use borrow.Author.Needs.{needs}
-use mathlib.Core.Path.{_≡_, refl, sym, ap, _∙_}
-use Prim.Native.Nat.{ℕ, _-_, _+_}
-use lib.ListN.{length, drop}
-use mathlib.Core.List.{List}
-use Rattle.formats.specs.Lines.{linesOf}
-use Rattle.catalogue.specs.Room.{feed}
-use Rattle.catalogue.proofs.laws.Desk.{feed-line, feed-end}
+use native.Mathlib.Omega.{arith}
+use Prim.Native.Nat.{_-_}
+use lib.ListN.{length}
+use Rattle.catalogue.proofs.laws.demand.Desk.{Feeding, feeding-starts, feeding-within, feeding-turns, feeding-ends}
 use Rattle.catalogue.proofs.desk.take_all.Statement.{statement}
 use Rattle.catalogue.proofs.desk.take_all.Tie as tie
 
 abbrev Inv-loop : tie.InvT-loop
-Inv-loop room₀ lines at₀ room at =
-    (feed room (linesOf (drop at lines)) ≡ feed room₀ (linesOf lines)) × (length room ≡ length room₀)
+Inv-loop room₀ bytes ends start₀ refused₀ i₀ room start refused i = Feeding room₀ bytes ends room start i refused
 
 abbrev μ-loop : tie.MeasureT-loop
-μ-loop room₀ lines at₀ room at = length lines - at
+μ-loop room₀ bytes ends start₀ refused₀ i₀ room start refused i = length ends - i
 
 loop-holds : tie.Need-loop-holds Inv-loop μ-loop
-loop-holds c = (refl, refl)
+loop-holds c =
+    let a = c .before .before .before .args in
+    feeding-starts (a .room .now) (a .bytes .now) (a .ends .now)
 
-line-end-requires : tie.Need-line-end-requires Inv-loop μ-loop
-line-end-requires c κs = search needs
+mul-end-in : tie.Need-mul-end-in Inv-loop μ-loop
+mul-end-in c = search needs
+
+shared-slice-read-end-in : tie.Need-shared-slice-read-end-in Inv-loop μ-loop
+shared-slice-read-end-in c = search needs
+
+end-in-requires : tie.Need-end-in-requires Inv-loop μ-loop
+end-in-requires c κs = search needs
 
 sub-take-line : tie.Need-sub-take-line Inv-loop μ-loop
-sub-take-line c = search needs
+sub-take-line c = omega (arith, feeding-within (c .before .before .before .before .loop .inv) (c .before .end-in .ensures))
 
 part-take-line-start : tie.Need-part-take-line-start Inv-loop μ-loop
-part-take-line-start c = search needs
+part-take-line-start c = omega (arith, feeding-within (c .before .before .before .before .loop .inv) (c .before .end-in .ensures))
 
 part-take-line-end : tie.Need-part-take-line-end Inv-loop μ-loop
-part-take-line-end c = search needs
+part-take-line-end c = omega (arith, feeding-within (c .before .before .before .before .loop .inv) (c .before .end-in .ensures))
 
 take-line-requires : tie.Need-take-line-requires Inv-loop μ-loop
 take-line-requires c κs = search needs
 
-add-at : tie.Need-add-at Inv-loop μ-loop
-add-at c = search needs
+counted-requires : tie.Need-counted-requires Inv-loop μ-loop
+counted-requires c κs = search needs
+
+add-i : tie.Need-add-i Inv-loop μ-loop
+add-i c = search needs
 
 loop-less : tie.Need-loop-less Inv-loop μ-loop
 loop-less c = search needs
 
 loop-again : tie.Need-loop-again Inv-loop μ-loop
 loop-again c =
-    let t = c .before .before .take-line in
-    let b = c .before .before .before .before .before in
-    let l = b .before .before .loop in
-    let a = b .before .before .before .before .before .args in (
-      ap (λ (r : List ℕ). feed r (linesOf (drop (b .line-end .result + 1) (a .lines .now)))) (t .ensures .1)
-          ∙ sym (feed-line (l .room) (a .lines .now) (l .at) (b .line-end .result) (search needs) (b .line-end .ensures .0)) ∙ l .inv .0,
-      t .kept .0 ∙ l .inv .1,
-    )
+    let l = c .before .before .before .before .before .before .before .before .before .loop in
+    let t = c .before .before .before .take-line in
+    feeding-turns (l .inv) (search needs) (c .before .before .before .before .before .before .end-in .ensures) (t .ensures .0) (t .ensures .1) (t .kept .0) (c .counted .ensures)
 
 same-length : tie.Need-same-length Inv-loop μ-loop
-same-length c = c .before .loop .inv .1
+same-length c = c .before .loop .inv .as-long
 
 returns : tie.Need-returns Inv-loop μ-loop
-returns c =
-    let l = c .before .loop in
-    let a = c .before .before .before .before .args in
-    sym (feed-end (l .room) (a .lines .now) (l .at) (search needs)) ∙ l .inv .0
+returns c = feeding-ends (c .before .loop .inv) (c .loop-test .left)
 
 pub take-all-spec : {M : Type 1} → statement M
 take-all-spec =
@@ -67,12 +67,15 @@ take-all-spec =
     Inv-loop
     μ-loop
     loop-holds
-    line-end-requires
+    mul-end-in
+    shared-slice-read-end-in
+    end-in-requires
     sub-take-line
     part-take-line-start
     part-take-line-end
     take-line-requires
-    add-at
+    counted-requires
+    add-i
     loop-less
     loop-again
     same-length

@@ -1,5 +1,6 @@
+-- Each desk is fed; the rest is demand 3.
 use borrow.Author.Needs.{needs}
-use Rattle.catalogue.proofs.laws.Desk.{desks}
+use Rattle.catalogue.proofs.laws.demand.Desk.{desks}
 use Rattle.catalogue.proofs.desk.two_desks.Statement.{statement}
 use Rattle.catalogue.proofs.desk.two_desks.Tie as tie
 
@@ -16,10 +17,7 @@ same-length-2 : tie.Need-same-length-2
 same-length-2 c = search needs
 
 returns : tie.Need-returns
-returns c =
-    let f = c .before .before .before .before .before .before in
-    let a = f .before .before .before .before .before .before .args in
-    desks (a .first .now) (a .second .now) (a .some .now) (a .others .now) (f .take-all .ensures) (c .before .before .take-all2 .ensures)
+returns c = desks (c .before .before .before .before .before .before .take-all .ensures) (c .before .before .take-all2 .ensures)
 
 pub two-desks-spec : {M : Type 1} → statement M
 two-desks-spec =

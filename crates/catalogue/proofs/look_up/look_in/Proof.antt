@@ -1,25 +1,28 @@
-use Rattle.catalogue.proofs.laws.RoomAt.{held-asc}
-use mathlib.Core.Path.{subst, _∙_}
-use Prim.Native.Nat.{_+_, _*_}
-use lib.ListN.{drop}
-use Rattle.catalogue.specs.Room.{rows}
-use Rattle.catalogue.specs.Rows.{rowKey, Sought}
-use Rattle.catalogue.proofs.laws.LookUp.{looked-found, looked-missing}
+-- What the search says of the held lines.
 use borrow.Author.Needs.{needs}
+use native.Mathlib.Omega.{arith}
 use Rattle.catalogue.proofs.look_up.look_in.Statement.{statement}
 use Rattle.catalogue.proofs.look_up.look_in.Tie as tie
+use mathlib.Core.Path.{_∙_, sym, subst}
+use Rattle.catalogue.specs.declared.section.Section.{Section}
+use Rattle.catalogue.specs.Assoc.{AscFrom}
+use Rattle.catalogue.specs.Keys.{keyNumber}
+use Rattle.catalogue.specs.Entries.{entriesOf, entryKey, Inside}
+use Rattle.catalogue.proofs.laws.room.Encode.{room-size}
+use Rattle.catalogue.proofs.laws.room.Places.{held-inside, held-asc}
+use Rattle.catalogue.proofs.laws.room.LookUp.{looked-found, looked-missing}
 
-held-requires : tie.Need-held-requires
-held-requires c κs = search needs
-
-word2-requires : tie.Need-word2-requires
-word2-requires c κs = search needs
-
-word8-requires : tie.Need-word8-requires
-word8-requires c κs = search needs
+held-in-requires : tie.Need-held-in-requires
+held-in-requires c κs =
+    omega (arith, c .before .pre .long, room-size)
 
 look-requires : tie.Need-look-requires
-look-requires c κs = search (needs, held-asc (c .before .before .before .before .before .args .room .now) (c .before .before .before .before .before .pre .0) (c .before .before .held .result) (c .before .before .held .ensures .0))
+look-requires c κs =
+    let a = c .before .before in
+    let e = sym (c .held-in .ensures) in (
+      subst (λ (x : Section). Inside x (a .args .room .now)) e (held-inside (a .args .room .now) (a .pre)),
+      subst (λ (x : Section). AscFrom (entryKey x) 0 (entriesOf x (a .args .room .now))) e (held-asc (a .args .room .now) (a .pre)),
+    )
 
 enum-known-place : tie.Need-enum-known-place
 enum-known-place c = search needs
@@ -32,25 +35,21 @@ none-requires c κs = search needs
 
 returns : tie.Need-returns
 returns c =
-    let a = c .before .before .before .before .before .before .before .before .before .args in
-    let x = c .before .before .before .before .before .word2 in
-    let y = c .before .before .before .before .word8 in
-    looked-found (a .room .now) (c .before .before .before .before .before .before .before .before .before .pre .0) (a .pair .now) (c .before .before .before .before .before .before .before .before .before .pre .1) (c .before .before .before .before .before .before .held .result) (x .result) (y .result) (c .before .before .before .before .before .before .held .ensures .0) (x .ensures .0) (y .ensures .0) _ (subst (Sought (rowKey 10) (x .result * 18446744073709551616 + y .result) (rows (c .before .before .before .before .before .before .held .result) 80 (drop 2 (a .room .now)))) (c .before .place .given .1) (c .before .before .before .look .ensures))
+    let a = c .before .before .before .before .before .before in
+    let g = c .before .place .given in
+    looked-found (a .args .room .now) (a .pre) (c .before .before .before .before .held-in .result) (c .before .before .before .before .held-in .ensures) (keyNumber (a .args .key)) (c .before .before .before .look .result) (c .before .before .before .look .ensures) (g .0 .0) (g .1)
 
 returns-2 : tie.Need-returns-2
 returns-2 c =
-    let a = c .before .before .before .before .before .before .before .before .before .args in
-    let x = c .before .before .before .before .before .word2 in
-    let y = c .before .before .before .before .word8 in
-    c .none .ensures ∙ looked-missing (a .room .now) (c .before .before .before .before .before .before .before .before .before .pre .0) (a .pair .now) (c .before .before .before .before .before .before .before .before .before .pre .1) (c .before .before .before .before .before .before .held .result) (x .result) (y .result) (c .before .before .before .before .before .before .held .ensures .0) (x .ensures .0) (y .ensures .0) _ (subst (Sought (rowKey 10) (x .result * 18446744073709551616 + y .result) (rows (c .before .before .before .before .before .before .held .result) 80 (drop 2 (a .room .now)))) (c .before .enum-told .given .1) (c .before .before .before .look .ensures))
+    let a = c .before .before .before .before .before .before in
+    let g = c .before .enum-told .given in
+    c .none .ensures ∙ looked-missing (a .args .room .now) (a .pre) (c .before .before .before .before .held-in .result) (c .before .before .before .before .held-in .ensures) (keyNumber (a .args .key)) (c .before .before .before .look .result) (c .before .before .before .look .ensures) (g .0 .0) (g .1)
 
 pub look-in-spec : {M : Type 1} → statement M
 look-in-spec =
     tie.close
     (tie.spec
-    held-requires
-    word2-requires
-    word8-requires
+    held-in-requires
     look-requires
     enum-known-place
     enum-told

@@ -1,38 +1,49 @@
-use mathlib.Core.Path.{sym, _∙_}
-use Rattle.catalogue.proofs.laws.InOrder.{order-short, order-is, order-not}
+-- Each answer is that of the room's first bytes.
 use borrow.Author.Needs.{needs}
+use native.Mathlib.Omega.{arith}
 use Rattle.catalogue.proofs.order.check_order.Statement.{statement}
 use Rattle.catalogue.proofs.order.check_order.Tie as tie
+use mathlib.Core.Path.{sym}
+use Prim.Native.Nat.{ℕ}
+use Rattle.catalogue.proofs.laws.room.Encode.{room-size}
+use Rattle.catalogue.proofs.laws.room.View.{checked-short, checked-disorder, checked-fine}
+use Rattle.catalogue.proofs.laws.room.Order.{front-length, front-ordered, front-disordered}
 
 returns : tie.Need-returns
-returns c = order-short (c .before .before .args .room .now) (c .if1 .taken)
+returns c =
+    sym (checked-short (c .before .before .args .room .now) (λ (n : ℕ). n) 0 (omega (arith, c .if1 .taken, room-size)))
 
-sub-in-order : tie.Need-sub-in-order
-sub-in-order c = search needs
+sub-named-pairs : tie.Need-sub-named-pairs
+sub-named-pairs c = search needs
 
-part-in-order-start : tie.Need-part-in-order-start
-part-in-order-start c = search needs
+part-named-pairs-start : tie.Need-part-named-pairs-start
+part-named-pairs-start c = search needs
 
-part-in-order-end : tie.Need-part-in-order-end
-part-in-order-end c = search needs
+part-named-pairs-end : tie.Need-part-named-pairs-end
+part-named-pairs-end c = search needs
 
-in-order-requires : tie.Need-in-order-requires
-in-order-requires c κs = search needs
+named-pairs-requires : tie.Need-named-pairs-requires
+named-pairs-requires c κs =
+    front-length (c .before .before .before .args .room .now) (c .before .if1 .left)
 
 returns-2 : tie.Need-returns-2
-returns-2 c = order-is (c .before .before .before .before .before .args .room .now) (c .before .before .before .if1 .left) (sym (c .before .in-order .ensures) ∙ c .if2 .taken)
+returns-2 c =
+    let a = c .before .before .before .before .before .args in
+    sym (checked-fine (a .room .now) (λ (n : ℕ). n) 0 (front-ordered (a .room .now) (c .before .before .before .if1 .left) (c .before .named-pairs .result) (c .before .named-pairs .ensures) (c .if2 .taken)))
 
 returns-3 : tie.Need-returns-3
-returns-3 c = order-not (c .before .before .before .before .before .args .room .now) (c .before .before .before .if1 .left) (sym (c .before .in-order .ensures) ∙ c .if2 .left)
+returns-3 c =
+    let a = c .before .before .before .before .before .args in
+    sym (checked-disorder (a .room .now) (λ (n : ℕ). n) 0 (omega (arith, c .before .before .before .if1 .left, room-size)) (front-disordered (a .room .now) (c .before .before .before .if1 .left) (c .before .named-pairs .result) (c .before .named-pairs .ensures) (c .if2 .left)))
 
 pub check-order-spec : {M : Type 1} → statement M
 check-order-spec =
     tie.close
     (tie.spec
     returns
-    sub-in-order
-    part-in-order-start
-    part-in-order-end
-    in-order-requires
+    sub-named-pairs
+    part-named-pairs-start
+    part-named-pairs-end
+    named-pairs-requires
     returns-2
     returns-3)

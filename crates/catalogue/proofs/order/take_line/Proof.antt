@@ -1,54 +1,66 @@
-use mathlib.Core.Path.{sym, _∙_}
-use Rattle.catalogue.proofs.laws.InOrder.{take-short, take-barred, to-ordered}
+-- The room is short, out of order, or taken into with the pairs that the check counted.
 use borrow.Author.Needs.{needs}
+use native.Mathlib.Omega.{arith}
+use mathlib.Core.Path.{sym}
+use Prim.Native.Nat.{ℕ}
+use Rattle.catalogue.proofs.laws.room.View.{call-short, room-short, call-disorder, room-disorder}
+use Rattle.catalogue.proofs.laws.room.Encode.{room-size}
+use Rattle.catalogue.proofs.laws.room.Order.{front-length, front-ordered, front-disordered, front-named}
 use Rattle.catalogue.proofs.order.take_line.Statement.{statement}
 use Rattle.catalogue.proofs.order.take_line.Tie as tie
 
 returns : tie.Need-returns
-returns c = take-short (c .before .before .before .args .room .now) (c .before .before .before .args .line .now) (c .if1 .taken)
+returns c =
+    let a = c .before .before .before .args in
+    let h = c .if1 .taken in
+    (sym (call-short (a .room .now) (a .line .now) (omega (arith, room-size))), sym (room-short (a .room .now) (a .line .now) (omega (arith, room-size))))
 
-sub-in-order : tie.Need-sub-in-order
-sub-in-order c = search needs
+sub-named-pairs : tie.Need-sub-named-pairs
+sub-named-pairs c = search needs
 
-part-in-order-start : tie.Need-part-in-order-start
-part-in-order-start c = search needs
+part-named-pairs-start : tie.Need-part-named-pairs-start
+part-named-pairs-start c = search needs
 
-part-in-order-end : tie.Need-part-in-order-end
-part-in-order-end c = search needs
+part-named-pairs-end : tie.Need-part-named-pairs-end
+part-named-pairs-end c = search needs
 
-in-order-requires : tie.Need-in-order-requires
-in-order-requires c κs = search needs
-
-take-ordered-requires : tie.Need-take-ordered-requires
-take-ordered-requires c κs =
-    let d = c .before .before .before .before .before .before .before .before .args in
-    to-ordered (d .room .now) (d .line .now) (c .before .before .before .before .before .if1 .left) (sym (c .before .before .in-order .ensures) ∙ c .before .if2 .taken)
+named-pairs-requires : tie.Need-named-pairs-requires
+named-pairs-requires c κs = front-length (c .before .before .before .before .before .args .room .now) (c .before .before .if1 .left)
 
 same-length : tie.Need-same-length
 same-length c = search needs
 
 returns-2 : tie.Need-returns-2
-returns-2 c = search needs
+returns-2 c =
+    let a = c .before .before .before .before .before .before .before .args in
+    let h = c .before .before .before .before .if1 .left in
+    let e = front-disordered (a .room .now) h (c .before .named-pairs .result) (c .before .named-pairs .ensures) (c .if2 .taken) in
+    (sym (call-disorder (a .room .now) (a .line .now) (omega (arith, room-size)) e), sym (room-disorder (a .room .now) (a .line .now) (omega (arith, room-size)) e))
+
+take-ordered-requires : tie.Need-take-ordered-requires
+take-ordered-requires c κs =
+    let a = c .before .before .before .before .before .before .before .before .args in
+    let h = c .before .before .before .before .before .if1 .left in
+    let n = c .before .before .named-pairs in
+    (front-ordered (a .room .now) h (n .result) (n .ensures) (c .before .if2 .left), front-named (a .room .now) h (n .result) (n .ensures) (c .before .if2 .left))
 
 same-length-2 : tie.Need-same-length-2
 same-length-2 c = search needs
 
 returns-3 : tie.Need-returns-3
-returns-3 c =
-    let d = c .before .before .before .before .before .before .before .args in
-    take-barred (d .room .now) (d .line .now) (c .before .before .before .before .if1 .left) (sym (c .before .in-order .ensures) ∙ c .if2 .left)
+returns-3 c = (c .before .before .before .take-ordered .ensures .call-is, c .before .before .before .take-ordered .ensures .room-is)
 
 pub take-line-spec : {M : Type 1} → statement M
 take-line-spec =
     tie.close
     (tie.spec
     returns
-    sub-in-order
-    part-in-order-start
-    part-in-order-end
-    in-order-requires
-    take-ordered-requires
+    sub-named-pairs
+    part-named-pairs-start
+    part-named-pairs-end
+    named-pairs-requires
     same-length
     returns-2
+    take-ordered-requires
     same-length-2
     returns-3)

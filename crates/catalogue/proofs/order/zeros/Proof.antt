@@ -1,34 +1,31 @@
-use native.Mathlib.Omega.{arith}
-use mathlib.Core.Path.{_≡_, refl, sym, _∙_}
-use mathlib.Core.List.{List}
-use Prim.Native.Nat.{ℕ, _-_, _≤_}
-use lib.ListN.{take, drop}
-use denote.Ref.{now}
-use Rattle.catalogue.specs.Zeros.{allZero}
-use Rattle.catalogue.proofs.laws.OrderRows.{zero-stop, zero-more, zero-end}
+-- The bytes from the i-th on are zero where all are.
 use borrow.Author.Needs.{needs}
+use native.Mathlib.Omega.{arith}
 use Rattle.catalogue.proofs.order.zeros.Statement.{statement}
 use Rattle.catalogue.proofs.order.zeros.Tie as tie
+use mathlib.Core.Path.{_≡_, refl, sym, _∙_}
+use Prim.Native.Nat.{_-_}
+use lib.ListN.{take, drop}
+use Rattle.catalogue.specs.Zeros.{allZero}
+use Rattle.catalogue.proofs.laws.room.Zeros.{zero-more, zero-stop, zero-end}
 
 abbrev Inv-loop : tie.InvT-loop
-Inv-loop s from to i₀ i = (i ≤ to) × (allZero (take (to - from) (drop from s)) ≡ allZero (take (to - i) (drop i s)))
+Inv-loop s from to i₀ i = allZero (take (to - from) (drop from s)) ≡ allZero (take (to - i) (drop i s))
 
 abbrev μ-loop : tie.MeasureT-loop
 μ-loop s from to i₀ i = to - i
 
 loop-holds : tie.Need-loop-holds Inv-loop μ-loop
-loop-holds c = (omega arith, refl)
+loop-holds c = refl
 
 shared-slice-read-if1 : tie.Need-shared-slice-read-if1 Inv-loop μ-loop
 shared-slice-read-if1 c = search needs
 
 returns : tie.Need-returns Inv-loop μ-loop
 returns c =
-    let d = c .before .before .before .before in
-    let s : List ℕ = now (d .args .s) in
-    let i : ℕ = c .before .before .before .loop .i in
-    let inv = c .before .before .before .loop .inv in
-    sym (inv .1 ∙ zero-stop s (d .args .to) (omega arith) i (omega arith) (c .if1 .taken))
+    let a = c .before .before .before .before .args in
+    let l = c .before .before .before .loop in
+    sym (l .inv ∙ zero-stop (a .s .now) (a .to) (omega arith) (l .i) (c .before .before .loop-test .taken) (c .if1 .taken))
 
 add-i : tie.Need-add-i Inv-loop μ-loop
 add-i c = search needs
@@ -38,19 +35,15 @@ loop-less c = search needs
 
 loop-again : tie.Need-loop-again Inv-loop μ-loop
 loop-again c =
-    let d = c .before .before .before .before in
-    let s : List ℕ = now (d .args .s) in
-    let i : ℕ = c .before .before .before .loop .i in
-    let inv = c .before .before .before .loop .inv in
-    (omega arith, inv .1 ∙ zero-more s (d .args .to) (omega arith) i (omega arith) (c .if1 .left))
+    let a = c .before .before .before .before .args in
+    let l = c .before .before .before .loop in
+    l .inv ∙ zero-more (a .s .now) (a .to) (omega arith) (l .i) (c .before .before .loop-test .taken) (c .if1 .left)
 
 returns-2 : tie.Need-returns-2 Inv-loop μ-loop
 returns-2 c =
-    let d = c .before .before in
-    let s : List ℕ = now (d .args .s) in
-    let i : ℕ = c .before .loop .i in
-    let inv = c .before .loop .inv in
-    sym (inv .1 ∙ zero-end s (d .args .to) (omega arith) i (omega arith))
+    let a = c .before .before .args in
+    let l = c .before .loop in
+    sym (l .inv ∙ zero-end (a .s .now) (a .to) (omega arith) (l .i) (c .loop-test .left))
 
 pub zeros-spec : {M : Type 1} → statement M
 zeros-spec =

@@ -5,7 +5,7 @@ use lib.Seq.{paste, paste-zero}
 use denote.Ref.{now}
 use Prim.Native.Nat.{suc, _≤_, _-_, _+_}
 use Rattle.catalogue.specs.Splice.{zeros}
-use Rattle.catalogue.proofs.laws.Splicing.{cleared-turn}
+use Rattle.catalogue.proofs.laws.section.Splicing.{cleared-turn}
 use mathlib.Core.Path.{_≡_, refl, ap, _∙_}
 use Rattle.catalogue.proofs.splice.clear.Statement.{statement}
 use Rattle.catalogue.proofs.splice.clear.Tie as tie

@@ -4,7 +4,7 @@ use lib.ListN.{length-set, length, drop}
 use lib.Seq.{paste, paste-zero}
 use denote.Ref.{now}
 use Prim.Native.Nat.{suc, _≤_, _-_, _+_}
-use Rattle.catalogue.proofs.laws.Splicing.{closed-turn}
+use Rattle.catalogue.proofs.laws.section.Splicing.{closed-turn}
 use mathlib.Core.Path.{_≡_, refl, ap, _∙_}
 use Rattle.catalogue.proofs.splice.close_gap.Statement.{statement}
 use Rattle.catalogue.proofs.splice.close_gap.Tie as tie

@@ -5,7 +5,7 @@ use native.Mathlib.Omega.{arith}
 use lib.ListN.{length, length-set, set, getD}
 use mathlib.Core.List.{List}
 use Rattle.catalogue.specs.Splice.{opened}
-use Rattle.catalogue.proofs.laws.Splicing.{opened-start, opened-back}
+use Rattle.catalogue.proofs.laws.section.Splicing.{opened-start, opened-back}
 use Rattle.catalogue.proofs.splice.open_gap.Statement.{statement}
 use Rattle.catalogue.proofs.splice.open_gap.Tie as tie
 

@@ -4,7 +4,7 @@ use Prim.Native.Nat.{ℕ}
 use lib.ListN.{length}
 use lib.Seq.{paste}
 use denote.Ref.{now}
-use Rattle.catalogue.proofs.laws.Splicing.{filled}
+use Rattle.catalogue.proofs.laws.section.Splicing.{filled}
 use borrow.Author.Needs.{needs}
 use Rattle.catalogue.proofs.splice.splice.Statement.{statement}
 use Rattle.catalogue.proofs.splice.splice.Tie as tie

@@ -1,6 +1,6 @@
-use Rattle.catalogue.proofs.laws.Delete.{deletion-bytes}
-use denote.Ref.{now}
+-- Each byte from its column.
 use borrow.Author.Needs.{needs}
+use Rattle.catalogue.proofs.laws.room.Found.{deletion-bytes}
 use Rattle.catalogue.proofs.take.deletion.Statement.{statement}
 use Rattle.catalogue.proofs.take.deletion.Tie as tie
 
@@ -35,7 +35,9 @@ shared-slice-read-t22 : tie.Need-shared-slice-read-t22
 shared-slice-read-t22 c = search needs
 
 returns : tie.Need-returns
-returns c = deletion-bytes (now (c .before .before .before .before .before .before .before .before .before .before .args .line)) (c .before .before .before .before .before .before .before .before .before .before .args .v) (search needs)
+returns c =
+    let a = c .before .before .before .before .before .before .before .before .before .before .args in
+    deletion-bytes (a .line .now) (a .v) (search needs)
 
 pub deletion-spec : {M : Type 1} → statement M
 deletion-spec =

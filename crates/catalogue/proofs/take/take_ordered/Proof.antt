@@ -1,80 +1,75 @@
-use Rattle.catalogue.proofs.laws.View.{kept}
-use mathlib.Core.Path.{sym, _∙_}
-use Rattle.catalogue.proofs.laws.Sorts.{kind-told, called, refused-done, event-accepted, delete-accepted, blank-accepted}
+-- A record that is there is a notice; a refusal passes up.
 use borrow.Author.Needs.{needs}
+use native.Mathlib.Omega.{arith}
 use Rattle.catalogue.proofs.take.take_ordered.Statement.{statement}
 use Rattle.catalogue.proofs.take.take_ordered.Tie as tie
+use mathlib.Core.Path.{_≡_, refl, sym, _∙_, ap}
+use mathlib.Core.List.{List}
+use Prim.Native.Nat.{ℕ}
+use lib.ListN.{getD}
+use Rattle.formats.proofs.laws.CubeRecord.{was-refused}
+use Rattle.catalogue.specs.Findings.{noticeKind, noticeOf, refusedCall}
+use Rattle.catalogue.proofs.laws.step.Line.{whole}
+use Rattle.catalogue.proofs.laws.room.Found.{notice-ok}
+use Rattle.catalogue.proofs.laws.room.Took.{there-kind, took-refused}
 
-sort-of-requires : tie.Need-sort-of-requires
-sort-of-requires c κs = search needs
+read-line-requires : tie.Need-read-line-requires
+read-line-requires c κs = search needs
+
+enum-known-read : tie.Need-enum-known-read
+enum-known-read c = search needs
 
 enum-told : tie.Need-enum-told
 enum-told c = search needs
 
-take-event-requires : tie.Need-take-event-requires
-take-event-requires c κs = (c .before .before .before .before .before .before .pre, kind-told _ _ _ (c .before .enum-told .given .1) (c .before .before .before .sort-of .ensures))
+refused-requires : tie.Need-refused-requires
+refused-requires c κs = search needs
 
-enum-told-2 : tie.Need-enum-told-2
-enum-told-2 c = search needs
+returns : tie.Need-returns
+returns c =
+    let d = c .before .before .before .before .before .before in
+    let a = d .args in
+    let g = c .before .enum-told .given in
+    let l = c .before .before .before .read-line in
+    let e = was-refused _ (l .result) (g .0 .0) (g .0 .1 .0) (l .ensures) (g .1) in
+    took-refused (a .room .now) (d .pre .0) (a .line .now) (g .0 .0) (g .0 .1 .0) e (a .named) (d .pre .1) _ (c .refused .ensures ∙ ap refusedCall (g .1)) refl
 
-take-delete-requires : tie.Need-take-delete-requires
-take-delete-requires c κs = (c .before .before .before .before .before .before .pre, kind-told _ _ _ (c .before .enum-told2 .given .1) (c .before .before .before .sort-of .ensures))
+shared-slice-read-notice-of : tie.Need-shared-slice-read-notice-of
+shared-slice-read-notice-of c =
+    let d = c .before .before .before .before .before .before .before .before in
+    let g = c .before .before .before .read .given in
+    let l = c .before .before .before .before .before .read-line in
+    let k = there-kind (d .args .line .now) (l .result) (l .ensures) (g .0 .0) (g .0 .1 .0) (g .1) in
+    let n = whole (d .args .line .now) (notice-ok (d .args .line .now) (noticeOf (g .0 .0) (getD (d .args .line .now) 12 0)) k) .long in
+    omega arith
 
-enum-told-3 : tie.Need-enum-told-3
-enum-told-3 c = search needs
+notice-of-requires : tie.Need-notice-of-requires
+notice-of-requires c κs = search needs
 
-take-blank-requires : tie.Need-take-blank-requires
-take-blank-requires c κs = (c .before .before .before .before .before .before .pre, kind-told _ _ _ (c .before .enum-told3 .given .1) (c .before .before .before .sort-of .ensures))
-
-enum-known-number : tie.Need-enum-known-number
-enum-known-number c = search needs
+take-notice-requires : tie.Need-take-notice-requires
+take-notice-requires c κs =
+    let d = c .before .before .before .before .before .before .before .before .before in
+    let g = c .before .before .before .before .read .given in
+    let l = c .before .before .before .before .before .before .read-line in
+    (d .pre .0, d .pre .1, there-kind (d .args .line .now) (l .result) (l .ensures) (g .0 .0) (g .0 .1 .0) (g .1) ∙ ap noticeKind (sym (c .notice-of .ensures)))
 
 same-length : tie.Need-same-length
 same-length c = search needs
 
-returns : tie.Need-returns
-returns c =
-    let a = c .before .before .before .before .before .before .before .before .before .args in
-    (called (a .room .now) (c .before .before .before .before .before .before .before .before .before .pre) (a .line .now) _ (event-accepted (a .line .now) (kind-told _ _ _ (c .before .before .before .before .enum-told .given .1) (c .before .before .before .before .before .before .sort-of .ensures))) (c .before .before .take-event .ensures .0), c .before .before .take-event .ensures .1, kept (a .room .now) (a .line .now) (c .before .before .before .before .before .before .before .before .before .pre) _ (c .before .before .take-event .ensures .1))
-
-same-length-2 : tie.Need-same-length-2
-same-length-2 c = search needs
-
 returns-2 : tie.Need-returns-2
-returns-2 c =
-    let a = c .before .before .before .before .before .before .before .before .before .args in
-    (called (a .room .now) (c .before .before .before .before .before .before .before .before .before .pre) (a .line .now) _ (delete-accepted (a .line .now) (kind-told _ _ _ (c .before .before .before .before .enum-told2 .given .1) (c .before .before .before .before .before .before .sort-of .ensures))) (c .before .before .take-delete .ensures .0), c .before .before .take-delete .ensures .1, kept (a .room .now) (a .line .now) (c .before .before .before .before .before .before .before .before .before .pre) _ (c .before .before .take-delete .ensures .1))
-
-same-length-3 : tie.Need-same-length-3
-same-length-3 c = search needs
-
-returns-3 : tie.Need-returns-3
-returns-3 c =
-    let a = c .before .before .before .before .before .before .before .before .before .args in
-    (called (a .room .now) (c .before .before .before .before .before .before .before .before .before .pre) (a .line .now) _ (blank-accepted (a .line .now) (kind-told _ _ _ (c .before .before .before .before .enum-told3 .given .1) (c .before .before .before .before .before .before .sort-of .ensures))) (c .before .before .take-blank .ensures .0), c .before .before .take-blank .ensures .1, kept (a .room .now) (a .line .now) (c .before .before .before .before .before .before .before .before .before .pre) _ (c .before .before .take-blank .ensures .1))
-
-returns-4 : tie.Need-returns-4
-returns-4 c =
-    let a = c .before .before .before .before .before .before .args in
-    let f = refused-done (a .room .now) (c .before .before .before .before .before .before .pre) (a .line .now) _ _ (sym (c .before .number .given .1) ∙ c .before .before .before .sort-of .ensures) in
-    (f .0, f .1, c .before .before .before .before .before .before .pre)
+returns-2 c = c .before .before .take-notice .ensures
 
 pub take-ordered-spec : {M : Type 1} → statement M
 take-ordered-spec =
     tie.close
     (tie.spec
-    sort-of-requires
+    read-line-requires
+    enum-known-read
     enum-told
-    take-event-requires
-    enum-told-2
-    take-delete-requires
-    enum-told-3
-    take-blank-requires
-    enum-known-number
-    same-length
+    refused-requires
     returns
-    same-length-2
-    returns-2
-    same-length-3
-    returns-3
-    returns-4)
+    shared-slice-read-notice-of
+    notice-of-requires
+    take-notice-requires
+    same-length
+    returns-2)

@@ -21,12 +21,14 @@ same-length-2 c = search needs
 
 returns : tie.Need-returns
 returns c =
-    let t = c .before .before .before .before .before .before .take-ordered in
+    let t = c .before .before .before .before .before .before .before .take-ordered .ensures in
+    let q = c .before .before .put-answer .ensures in
     record {
-      taken = t .ensures .1;
-      ordered = t .ensures .2;
-      put = put-as (ap (answerLine (c .before .before .before .before .before .before .before .before .before .before .before .args .number)) (t .ensures .0)) (c .before .before .put-answer .ensures .0);
-      short = c .before .before .put-answer .ensures .1;
+      taken = t .room-is;
+      ordered = t .ordered;
+      named-are = t .named-are;
+      put = put-as (ap (answerLine (c .before .before .before .before .before .before .before .before .before .before .before .before .args .number)) (t .call-is)) (q .0);
+      short = q .1;
     }
 
 pub answer-spec : {M : Type 1} → statement M

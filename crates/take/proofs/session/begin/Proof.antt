@@ -19,7 +19,7 @@ same-length c = search needs
 
 returns : tie.Need-returns
 unfolding heading opened
-returns c = (c .before .before .put-bytes .ensures .bytes, omega (arith, c .before .before .put-bytes .ensures .place), λ (room line : List ℕ). refl, refl, refl)
+returns c = (c .before .before .put-bytes .ensures .bytes, omega (arith, c .before .before .put-bytes .ensures .place), λ (room line : List ℕ). refl, refl, refl, refl)
 
 pub begin-spec : {M : Type 1} → statement M
 begin-spec = tie.close (tie.spec slice-aggregate-put-bytes put-bytes-requires same-length returns)

@@ -1,5 +1,5 @@
 use native.Mathlib.Omega.{arith}
-use mathlib.Core.Path.{_∙_}
+use mathlib.Core.Path.{sym, _∙_}
 use Prim.Native.Nat.{_-_}
 use lib.ListN.{take}
 use borrow.Author.Needs.{needs}
@@ -15,12 +15,13 @@ read-all-requires c κs =
     let b = c .before .before .before .before .before .before .begin in (
       record {
         ordered = d .0;
-        line-size = d .1;
+        named-are = b .ensures .5 ∙ sym (d .1);
+        line-size = d .2;
         line-fits = omega (arith, b .ensures .4);
-        out-size = b .kept .0 ∙ d .3;
+        out-size = b .kept .0 ∙ d .4;
         out-fits = b .ensures .1;
       },
-      d .2,
+      d .3,
       b .ensures .3,
     )
 

@@ -1,38 +1,46 @@
-use Rattle.take.proofs.laws.Text.{put-more, put-as}
+-- The held lines, then the deletions, as the room has them.
+use Rattle.take.proofs.laws.Text.{put-more, put-as, held-printable, deletions-printable}
 use Rattle.take.specs.Text.{section, catalogueText}
-use Rattle.catalogue.proofs.laws.View.{held-rows, deletion-rows}
-use denote.Ref.{now}
+use Rattle.catalogue.proofs.laws.room.Found.{long-enough}
 use native.Mathlib.Omega.{arith}
-use mathlib.Core.Path.{sym, ap}
-use Prim.Native.Nat.{ℕ, _-_}
-use mathlib.Core.List.{List, [], _∷_}
+use mathlib.Core.Path.{ap}
+use mathlib.Core.List.{[], _∷_}
 use borrow.Author.Needs.{needs}
 use Rattle.take.proofs.text.put_catalogue.Statement.{statement}
 use Rattle.take.proofs.text.put_catalogue.Tie as tie
 
-held-requires : tie.Need-held-requires
-held-requires c κs = search needs
+held-in-requires : tie.Need-held-in-requires
+held-in-requires c κs =
+    let d = c .before .before in
+    long-enough (d .args .room .now) (d .pre .0) .0
 
-deletions-requires : tie.Need-deletions-requires
-deletions-requires c κs = search needs
+deletions-in-requires : tie.Need-deletions-in-requires
+deletions-in-requires c κs =
+    let d = c .before .before .before in
+    (c .held-in .ensures, rw (c .held-in .ensures) (long-enough (d .args .room .now) (d .pre .0) .1))
 
 slice-aggregate-put-section : tie.Need-slice-aggregate-put-section
 slice-aggregate-put-section c = search needs
 
 put-section-requires : tie.Need-put-section-requires
-put-section-requires c κs = search needs
+put-section-requires c κs =
+    let d = c .before .before .before .before .before .before in
+    let h = c .before .before .before .held-in in
+    let k = held-printable (d .args .room .now) (d .pre .0) (h .result) (h .ensures) in
+    (k .0, omega (arith, k .1, d .pre .1))
 
 slice-aggregate-put-section-2 : tie.Need-slice-aggregate-put-section-2
 slice-aggregate-put-section-2 c = search needs
 
-mul-put-section : tie.Need-mul-put-section
-mul-put-section c = search needs
-
-add-put-section : tie.Need-add-put-section
-add-put-section c = search needs
-
 put-section-requires-2 : tie.Need-put-section-requires-2
-put-section-requires-2 c κs = search needs
+put-section-requires-2 c κs =
+    let d = c .before .before .before .before .before .before .before .before .before .before .before in
+    let h = c .before .before .before .before .before .before .before .before .held-in in
+    let g = c .before .before .before .before .before .before .before .deletions-in in
+    let t = c .before .before .before .before .put-section in
+    let k = held-printable (d .args .room .now) (d .pre .0) (h .result) (h .ensures) in
+    let m = deletions-printable (d .args .room .now) (d .pre .0) (g .result) (g .ensures) in
+    (m .0, omega (arith, t .ensures .1, t .kept .0, k .1, m .1, d .pre .1))
 
 same-length : tie.Need-same-length
 same-length c = search needs
@@ -40,26 +48,27 @@ same-length c = search needs
 returns : tie.Need-returns
 unfolding catalogueText
 returns c =
-    let r : List ℕ = now (c .before .before .before .before .before .before .before .before .before .before .before .before .before .before .args .room) in
-    let o = c .before .before .before .before .before .before .before .before .before .before .before .before .before .before .pre .0 in
-    let n = c .before .before .before .before .before .before .before .before .before .before .before .held in
-    let m = c .before .before .before .before .before .before .before .before .before .before .deletions in (
-      put-more (put-as (ap (section (104 ∷ 101 ∷ 108 ∷ 100 ∷ 32 ∷ [])) (sym (held-rows r o (n .result) (n .ensures .0)))) (c .before .before .before .before .before .before .before .put-section .ensures .0))
-          (put-as (ap (section (100 ∷ 101 ∷ 108 ∷ 101 ∷ 116 ∷ 101 ∷ 100 ∷ 32 ∷ [])) (sym (deletion-rows r o (n .result) (n .ensures .0) (m .result) (m .ensures .0)))) (c .before .before .put-section2 .ensures .0)),
-      omega (arith, c .before .before .before .before .before .before .before .put-section .ensures .1, c .before .before .put-section2 .ensures .1, n .ensures .2, m .ensures .2),
+    let d = c .before .before .before .before .before .before .before .before .before .before .before .before .before .before in
+    let r = d .args .room .now in
+    let h = c .before .before .before .before .before .before .before .before .before .before .before .held-in in
+    let g = c .before .before .before .before .before .before .before .before .before .before .deletions-in in
+    let t = c .before .before .before .before .before .before .before .put-section in
+    let u = c .before .before .put-section2 in
+    let k = held-printable (d .args .room .now) (d .pre .0) (h .result) (h .ensures) in
+    let m = deletions-printable (d .args .room .now) (d .pre .0) (g .result) (g .ensures) in (
+      put-more (put-as (ap (section (104 ∷ 101 ∷ 108 ∷ 100 ∷ 32 ∷ [])) (k .2)) (t .ensures .0)) (put-as (ap (section (100 ∷ 101 ∷ 108 ∷ 101 ∷ 116 ∷ 101 ∷ 100 ∷ 32 ∷ [])) (m .2)) (u .ensures .0)),
+      omega (arith, t .ensures .1, u .ensures .1, k .1, m .1),
     )
 
 pub put-catalogue-spec : {M : Type 1} → statement M
 put-catalogue-spec =
     tie.close
     (tie.spec
-    held-requires
-    deletions-requires
+    held-in-requires
+    deletions-in-requires
     slice-aggregate-put-section
     put-section-requires
     slice-aggregate-put-section-2
-    mul-put-section
-    add-put-section
     put-section-requires-2
     same-length
     returns)

@@ -1,0 +1,205 @@
+-- A line's pair before and after the line is taken, where the highest lines so far say what is held and deleted.
+use Prim.Native.Nat.{ℕ, _≤_, _<_}
+use mathlib.Core.Path.{_≡_, refl, sym, _∙_, ap}
+use mathlib.Core.List.{List}
+use mathlib.Core.Option.{Option, none, some}
+use native.Mathlib.Omega.{arith}
+use lib.Dec.{ltb, leb}
+use borrow.Author.Tests.{ltb-true, ltb-false, leb-true, leb-false, lt-ltb, le-ltb}
+use Rattle.columns.specs.Answer.{pick}
+use Rattle.formats.specs.Record.{sameBytes}
+use Rattle.formats.proofs.laws.Record.{same-is}
+use Rattle.catalogue.specs.declared.take.Deed.{Deed}
+use Rattle.catalogue.specs.declared.take.Deed.the-variants.{Leave, Hold, Note, Wipe}
+use Rattle.catalogue.specs.Answers.{replaced, repeated, outdated}
+use Rattle.catalogue.specs.Line.{event, delete, Acceptable, version, key, deletion, deletionVersion}
+use Rattle.catalogue.specs.Taking.{covered, overHeld, overDeleted, decide}
+use Rattle.catalogue.specs.Last.{deletionFor, heldFor}
+use Rattle.catalogue.proofs.laws.assoc.Tri.{le, gt, le?}
+use Rattle.catalogue.proofs.laws.assoc.Tests.{pick-by}
+use Rattle.catalogue.proofs.laws.step.Line.{whole, deletion-version, deletion-eq}
+use Rattle.catalogue.proofs.laws.step.Done.{heldAfter, deletionAfter}
+use Rattle.catalogue.proofs.laws.demand.Highest.{later-within, later-above, joined}
+
+-- ---- what is held
+
+pub held-none : (e : Option (List ℕ)) → heldFor e none ≡ e
+unfolding heldFor
+held-none none = refl
+held-none (some e) = refl
+
+pub held-nothing : (d : Option (List ℕ)) → heldFor none d ≡ none
+unfolding heldFor
+held-nothing d = refl
+
+module _ (e d : List ℕ) where
+  pub held-above : version d < version e → heldFor (some e) (some d) ≡ some e
+  unfolding heldFor
+  held-above h = rw (lt-ltb (version d) (version e) h)
+
+  pub held-within : version e ≤ version d → heldFor (some e) (some d) ≡ none
+  unfolding heldFor
+  held-within h = rw (le-ltb (version d) (version e) h)
+
+-- only the deleted version counts
+pub held-version : (e : Option (List ℕ)) (d g : List ℕ) → version d ≡ version g → heldFor e (some d) ≡ heldFor e (some g)
+unfolding heldFor
+held-version none d g v = refl
+held-version (some e) d g v = rw v
+
+-- the chosen delete, if there is one, is of this pair
+abbrev pub Own : ℕ → Option (List ℕ) → Type 0
+Own k none = Unit {0}
+Own k (some y) = Acceptable y × (key y ≡ k)
+
+own-version : (k : ℕ) (y : List ℕ) → Own k (some y) → deletionVersion (deletion y (version y)) ≡ version y
+own-version k y o = deletion-version y (version y) (whole y (o .0) .long)
+
+-- what is held was chosen
+pub held-chosen : (e d : Option (List ℕ)) (x : List ℕ) → heldFor e d ≡ some x → e ≡ some x
+unfolding heldFor
+held-chosen none d x q = let z : _≡_ {A = ℕ} 0 1 = cc in absurd (omega arith)
+held-chosen (some e) none x q = q
+held-chosen (some e) (some d) x q =
+    pick-by (λ (o : Option (List ℕ)). o ≡ some x → some e ≡ some x) (ltb (version d) (version e)) (some e) none (λ t. λ (p : some e ≡ some x). p)
+    (λ t. λ (p : none ≡ some x). let z : _≡_ {A = ℕ} 0 1 = cc in absurd (omega arith)) q
+
+pub deletion-chosen : (d : Option (List ℕ)) (x : List ℕ) → deletionFor d ≡ some x → (y : List ℕ) × (d ≡ some y) × (x ≡ deletion y (version y))
+unfolding deletionFor
+deletion-chosen none x q = let z : _≡_ {A = ℕ} 0 1 = cc in absurd (omega arith)
+deletion-chosen (some y) x q = (y, refl, cc)
+
+-- what is held goes by the deletion's bytes: they have the version
+pub held-deletion : (k : ℕ) (e d g : Option (List ℕ)) → Own k d → Own k g → deletionFor d ≡ deletionFor g → heldFor e d ≡ heldFor e g
+unfolding deletionFor
+held-deletion k e none none a b q = refl
+held-deletion k e none (some y) a b q = let z : _≡_ {A = ℕ} 0 1 = cc in absurd (omega arith)
+held-deletion k e (some x) none a b q = let z : _≡_ {A = ℕ} 0 1 = cc in absurd (omega arith)
+held-deletion k e (some x) (some y) a b q =
+    let r : deletion x (version x) ≡ deletion y (version y) = cc in
+    held-version e x y (sym (own-version k x a) ∙ ap deletionVersion r ∙ own-version k y b)
+
+-- the chosen delete, if there is one, is below v
+abbrev Below : Option (List ℕ) → ℕ → Type 0
+Below none v = Unit {0}
+Below (some d) v = version d < v
+
+module _ (l : List ℕ) where
+  -- ---- an E line
+
+  over-held-joined : (h : Option (List ℕ)) → heldAfter (overHeld l h) l h ≡ joined h l
+  unfolding overHeld
+  over-held-joined none = refl
+  over-held-joined (some x) =
+      pick-by (λ (e : Deed). heldAfter e l (some x) ≡ joined (some x) l) (ltb (version l) (version x)) (Leave outdated) (pick (sameBytes l x) (Leave repeated) (Hold replaced))
+      (λ t. sym (later-above x l (ltb-true (version l) (version x) t)))
+      (λ t.
+      let v : version x ≤ version l = ltb-false (version l) (version x) t in
+      pick-by (λ (e : Deed). heldAfter e l (some x) ≡ joined (some x) l) (sameBytes l x) (Leave repeated) (Hold replaced)
+      (λ s. sym (later-within x l v ∙ ap some (same-is l x s))) (λ s. sym (later-within x l v)))
+
+  over-held-kept : (d h : Option (List ℕ)) → deletionAfter (overHeld l h) l d ≡ d
+  unfolding overHeld
+  over-held-kept d none = refl
+  over-held-kept d (some x) =
+      pick-by (λ (e : Deed). deletionAfter e l d ≡ d) (ltb (version l) (version x)) (Leave outdated) (pick (sameBytes l x) (Leave repeated) (Hold replaced)) (λ t. refl)
+      (λ t. pick-by (λ (e : Deed). deletionAfter e l d ≡ d) (sameBytes l x) (Leave repeated) (Hold replaced) (λ s. refl) (λ s. refl))
+
+  -- where the line is above the deletes
+  joined-above : (e d : Option (List ℕ)) → Below d (version l) → joined (heldFor e d) l ≡ heldFor (joined e l) d
+  joined-above e none h = simp held-none
+  joined-above none (some y) h = simp (held-nothing, held-above l y h)
+  joined-above (some x) (some y) h =
+      elim (le? (version x) (version y)) [
+        | le p ↦ let q : version x ≤ version l = omega arith in simp (held-within x y p, later-within x l q, held-above l y h)
+        | gt p ↦ elim (le? (version x) (version l)) [
+          | le q ↦ simp (held-above x y p, later-within x l q, held-above l y h)
+          | gt q ↦ simp (held-above x y p, later-above x l q)
+        ]
+      ]
+
+  -- and where it is not
+  joined-within : (e : Option (List ℕ)) (y : List ℕ) → version l ≤ version y → heldFor e (some y) ≡ heldFor (joined e l) (some y)
+  joined-within none y h = simp (held-nothing, held-within l y h)
+  joined-within (some x) y h =
+      elim (le? (version x) (version l)) [
+        | le p ↦ let q : version x ≤ version y = omega arith in simp (later-within x l p, held-within x y q, held-within l y h)
+        | gt p ↦ simp (later-above x l p)
+      ]
+
+  -- ---- a DE line
+
+  over-deleted-held : (h : Option (List ℕ)) → heldAfter (overDeleted (version l) h) l h ≡ heldFor h (some l)
+  unfolding overDeleted
+  over-deleted-held none = sym (held-nothing (some l))
+  over-deleted-held (some x) =
+      pick-by (λ (e : Deed). heldAfter e l (some x) ≡ heldFor (some x) (some l)) (leb (version x) (version l)) (Wipe (version l)) (Note (version l))
+      (λ t. sym (held-within x l (leb-true (version x) (version l) t))) (λ t. sym (held-above x l (leb-false (version x) (version l) t)))
+
+  over-deleted-noted : (d h : Option (List ℕ)) → deletionAfter (overDeleted (version l) h) l d ≡ some (deletion l (version l))
+  unfolding overDeleted
+  over-deleted-noted d none = refl
+  over-deleted-noted d (some x) =
+      pick-by (λ (e : Deed). deletionAfter e l d ≡ some (deletion l (version l))) (leb (version x) (version l)) (Wipe (version l)) (Note (version l)) (λ t. refl) (λ t. refl)
+
+  held-twice : (e d : Option (List ℕ)) → Below d (version l) → heldFor (heldFor e d) (some l) ≡ heldFor e (some l)
+  held-twice e none h = simp held-none
+  held-twice none (some y) h = simp held-nothing
+  held-twice (some x) (some y) h =
+      elim (le? (version x) (version y)) [
+        | le p ↦ let q : version x ≤ version l = omega arith in simp (held-within x y p, held-nothing, held-within x l q)
+        | gt p ↦ simp (held-above x y p)
+      ]
+
+  joined-new : (d : Option (List ℕ)) → Below d (version l) → joined d l ≡ some l
+  joined-new none h = refl
+  joined-new (some y) h = later-within y l (omega arith)
+
+  joined-held : (e : Option (List ℕ)) (y : List ℕ) → version l ≤ version y → heldFor e (some y) ≡ heldFor e (joined (some y) l)
+  joined-held e y h =
+      elim (le? (version y) (version l)) [
+        | le p ↦ let v : version y ≡ version l = omega arith in held-version e y l v ∙ simp (later-within y l p)
+        | gt p ↦ simp (later-above y l p)
+      ]
+
+  joined-deletion : Acceptable l → (y : List ℕ) → Own (key l) (some y) → version l ≤ version y → deletionFor (some y) ≡ deletionFor (joined (some y) l)
+  unfolding deletionFor
+  joined-deletion a y o h =
+      elim (le? (version y) (version l)) [
+        | le p ↦ let v : version y ≡ version l = omega arith in ap some (ap (deletion y) v ∙ deletion-eq y l (o .0) a (version l) (o .1)) ∙ sym (ap deletionFor (later-within y l p))
+        | gt p ↦ sym (ap deletionFor (later-above y l p))
+      ]
+
+-- ---- the pair after the line
+
+-- after a deed the pair is as the highest lines e and d say, where x and y said it before
+abbrev pub PairAfter : List ℕ → Deed → Option (List ℕ) → Option (List ℕ) → Option (List ℕ) → Option (List ℕ) → Type 0
+PairAfter l deed x y e d = (heldAfter deed l (heldFor x y) ≡ heldFor e d) × (deletionAfter deed l (deletionFor y) ≡ deletionFor d)
+
+module _ (l : List ℕ) (e : Option (List ℕ)) where
+  pub event-pair : (d : Option (List ℕ)) → Own (key l) d → PairAfter l (decide event l (deletionFor d) (heldFor e d)) e d (joined e l) d
+  unfolding decide covered deletionFor
+  event-pair none o = (over-held-joined l (heldFor e none) ∙ joined-above l e none tt, over-held-kept l none (heldFor e none))
+  event-pair (some y) o =
+      let v = own-version (key l) y o in
+      pick-by (λ (t : Deed). PairAfter l t e (some y) (joined e l) (some y)) (leb (version l) (deletionVersion (deletion y (version y)))) (Leave outdated) (overHeld l (heldFor e (some y)))
+      (λ t. (joined-within l e y (omega (arith, v, leb-true (version l) (deletionVersion (deletion y (version y))) t)), refl))
+      (λ t. (
+        over-held-joined l (heldFor e (some y)) ∙ joined-above l e (some y) (omega (arith, v, leb-false (version l) (deletionVersion (deletion y (version y))) t)),
+        over-held-kept l (some (deletion y (version y))) (heldFor e (some y)),
+      ))
+
+  pub delete-pair : Acceptable l → (d : Option (List ℕ)) → Own (key l) d → PairAfter l (decide delete l (deletionFor d) (heldFor e d)) e d e (joined d l)
+  unfolding decide covered deletionFor
+  delete-pair a none o = (over-deleted-held l (heldFor e none) ∙ held-twice l e none tt, over-deleted-noted l none (heldFor e none))
+  delete-pair a (some y) o =
+      let v = own-version (key l) y o in
+      pick-by (λ (t : Deed). PairAfter l t e (some y) e (joined (some y) l)) (leb (version l) (deletionVersion (deletion y (version y)))) (Leave outdated) (overDeleted (version l) (heldFor e (some y)))
+      (λ t.
+      let w : version l ≤ version y = omega (arith, v, leb-true (version l) (deletionVersion (deletion y (version y))) t) in
+      (joined-held l e y w, joined-deletion l a y o w))
+      (λ t.
+      let w : version y < version l = omega (arith, v, leb-false (version l) (deletionVersion (deletion y (version y))) t) in (
+        over-deleted-held l (heldFor e (some y)) ∙ held-twice l e (some y) w ∙ sym (ap (heldFor e) (joined-new l (some y) w)),
+        over-deleted-noted l (some (deletion y (version y))) (heldFor e (some y)) ∙ sym (ap deletionFor (joined-new l (some y) w)),
+      ))

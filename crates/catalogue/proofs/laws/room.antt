@@ -1,0 +1,12 @@
+pub mod Encode
+pub mod View
+pub mod Places
+pub mod Found
+pub mod Carry
+pub mod Untouched
+pub mod Took
+pub mod Zeros
+pub mod Weight
+pub mod Order
+pub mod LookUp
+pub mod Answered

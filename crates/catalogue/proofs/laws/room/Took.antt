@@ -1,0 +1,146 @@
+-- What taking a line answers and counts, from what the code found and decided.
+use Prim.Native.Nat.{ℕ, suc, _≤_}
+use mathlib.Core.Path.{_≡_, refl, sym, _∙_, ap, ap₂, subst}
+use mathlib.Core.Logic.{_⊎_, inl, inr}
+use mathlib.Core.Bool.{Bool, true, false}
+use mathlib.Core.List.{List, []}
+use mathlib.Core.Option.{Option, none, some}
+use native.Mathlib.Omega.{arith}
+use lib.Dec.{eqb}
+use lib.ListN.{length, getD}
+use borrow.Author.Tests.{eq-eqb, eqb-true}
+use Rattle.columns.specs.Answer.{pick, Answer, ok, refusal}
+use Rattle.formats.specs.Cube.{Message, eventKind, readLine, lineOf}
+use Rattle.formats.specs.declared.cube.LineRead.{LineRead}
+use Rattle.formats.specs.declared.cube.Read.{Read}
+use Rattle.formats.specs.declared.cube.Read.the-variants.{There, Refused}
+use Rattle.formats.specs.Cube as cube
+use Rattle.formats.proofs.laws.CubeFields.{delete-version}
+use Rattle.formats.proofs.laws.CubeRecord.{was-event, was-delete, was-refused}
+use Rattle.catalogue.specs.declared.Call.{Call}
+use Rattle.catalogue.specs.declared.section.Seek.{Seek}
+use Rattle.catalogue.specs.declared.section.Seek.the-variants.{Found, Missing}
+use Rattle.catalogue.specs.declared.take.Deed.{Deed}
+use Rattle.catalogue.specs.declared.take.Deed.the-variants.{Leave, Hold, Note, Wipe}
+use Rattle.catalogue.specs.declared.take.Notice.{Notice}
+use Rattle.catalogue.specs.declared.take.Notice.the-variants.{Event, Delete, Blank}
+use Rattle.catalogue.specs.declared.take.Findings.{Findings}
+use Rattle.catalogue.specs.declared.take.Taken.{Taken}
+use Rattle.catalogue.specs.Line.{Acceptable, Kind, event, delete, blank, refused, kindOf, kind, refusedBy, refusedAt, key, deletionKey}
+use Rattle.catalogue.specs.Catalogue.{Catalogue, named}
+use Rattle.catalogue.specs.Taking.{decide, limited, deedOf, done, step}
+use Rattle.catalogue.specs.Room.{contents, callOf, roomAfter}
+use Rattle.catalogue.specs.Ordered.{Ordered}
+use Rattle.catalogue.specs.Entries.{Sought, entriesOf, entryOf}
+use Rattle.catalogue.specs.Findings.{noticeKind, noticeOf, refusedCall, IsFound, Known, answered, oneMore, namedAfter, Took}
+use Rattle.catalogue.proofs.laws.section.Seek.{found-find, missing-find}
+use Rattle.catalogue.proofs.laws.step.Names.{held-named, deletion-named}
+use Rattle.catalogue.proofs.laws.step.Count.{Changes, named-leave, named-known, named-new}
+use Rattle.catalogue.proofs.laws.step.Decide.{deed-refused}
+use Rattle.catalogue.proofs.laws.room.View.{view-good, call-is, room-is, ordered-after, after-contents}
+use Rattle.catalogue.proofs.laws.room.Found.{notice-ok, known-decides}
+use Rattle.catalogue.proofs.laws.room.Carry.{left}
+
+-- ---- the kind of the line that was read
+
+-- an acceptable line is answered at column 0
+at-zero : (a : Answer Message) → (kindOf a ≡ refused → ⊥) → refusedAt a ≡ 0
+at-zero (ok m) h = refl
+at-zero (refusal n k) h = absurd (h refl)
+
+blank-or-delete : (t : Bool) → pick t blank delete ≡ noticeKind (pick t Blank Delete)
+blank-or-delete true = refl
+blank-or-delete false = refl
+
+module _ (l : List ℕ) (r : LineRead) (e : r ≡ lineOf (readLine l)) where
+  -- a record that is there: its kind and the line's version say which notice it is
+  pub there-kind : (k n : ℕ) → r .read ≡ There k n → kind l ≡ noticeKind (noticeOf k (getD l 12 0))
+  unfolding kind
+  there-kind k n q = by-test (eqb k eventKind) refl
+    where
+      by-test : (t : Bool) → eqb k eventKind ≡ t → kindOf (readLine l) ≡ noticeKind (pick t Event (pick (eqb (getD l 12 0) 32) Blank Delete))
+      by-test true p =
+          let w = was-event (readLine l) r k n e q (eqb-true k eventKind p) in
+          ap kindOf (w .is)
+      by-test false p =
+          let w = was-delete (readLine l) r k n e q (λ (u : k ≡ eventKind). let z : true ≡ false = sym (eq-eqb k eventKind u) ∙ p in let y : _≡_ {A = ℕ} 0 1 = cc in omega arith) in
+          ap kindOf (w .is) ∙ ap (λ (v : ℕ). pick (eqb v 32) blank delete) (delete-version l (w .names) (w .chars) (w .is)) ∙ blank-or-delete (eqb (getD l 12 0) 32)
+
+-- ---- a room in order
+
+module _ (r : List ℕ) (o : Ordered r) (l : List ℕ) where
+  pub few-named : named (contents r) ≤ 512
+  few-named = view-good r o .few
+
+  -- the answer of a deed is the answer of the call
+  done-answer : (e : Deed) → done e (contents r) l .answer ≡ answered e
+  unfolding done
+  done-answer (Leave n) = refl
+  done-answer (Hold n) = refl
+  done-answer (Note v) = refl
+  done-answer (Wipe v) = refl
+
+  module _ (f : Findings) (K : Known r l f) where
+    -- the code's decision is the definition's
+    pub decided : (n : Notice) → kind l ≡ noticeKind n → (m : ℕ) → m ≡ named (contents r) → (e g : Deed)
+        → e ≡ decide (noticeKind n) l (entryOf (entriesOf (f .deletions) r) (f .in_deletions)) (entryOf (entriesOf (f .held) r) (f .in_held))
+        → g ≡ limited m (entryOf (entriesOf (f .deletions) r) (f .in_deletions)) (entryOf (entriesOf (f .held) r) (f .in_held)) e
+        → g ≡ deedOf (contents r) l
+    decided n k m p e g q h =
+        h ∙ ap₂ (λ (x : ℕ) (y : Deed). limited x (entryOf (entriesOf (f .deletions) r) (f .in_deletions)) (entryOf (entriesOf (f .held) r) (f .in_held)) y) p q ∙ known-decides r o l f K n k
+
+    -- where the pair is in no held line, the deletions were searched
+    searched : (i : ℕ) → f .in_held ≡ Missing i → Sought deletionKey (key l) (contents r .deletions) (f .in_deletions)
+    searched i p = by-found (K .in-deletions)
+      where
+        by-found : (Sought deletionKey (key l) (contents r .deletions) (f .in_deletions)) ⊎ ((kind l ≡ event) × IsFound (f .in_held) × (f .in_deletions ≡ Missing 0)) → Sought deletionKey (key l) (contents r .deletions) (f .in_deletions)
+        by-found (inl s) = s
+        by-found (inr u) = absurd (subst IsFound p (u .1))
+
+    one-more : Changes (deedOf (contents r) l) → (h d : Seek) → f .in_held ≡ h → f .in_deletions ≡ d → oneMore h d (named (contents r)) ≡ named (step (contents r) l .after)
+    one-more c (Found i) d p q =
+        let s : Sought key (key l) (contents r .held) (Found i) = subst (Sought key (key l) (contents r .held)) p (K .in-held) in
+        sym (named-known (contents r) l (view-good r o) (held-named (contents r) (key l) (getD (contents r .held) i []) (found-find key (key l) (contents r .held) i s)))
+    one-more c (Missing i) (Found j) p q =
+        let s : Sought deletionKey (key l) (contents r .deletions) (Found j) = subst (Sought deletionKey (key l) (contents r .deletions)) q (searched i p) in
+        sym (named-known (contents r) l (view-good r o) (deletion-named (contents r) (key l) (getD (contents r .deletions) j []) (found-find deletionKey (key l) (contents r .deletions) j s)))
+    one-more c (Missing i) (Missing j) p q =
+        let s : Sought key (key l) (contents r .held) (Missing i) = subst (Sought key (key l) (contents r .held)) p (K .in-held) in
+        let t : Sought deletionKey (key l) (contents r .deletions) (Missing j) = subst (Sought deletionKey (key l) (contents r .deletions)) q (searched i p) in
+        sym (named-new (contents r) l (view-good r o) (missing-find deletionKey (key l) (contents r .deletions) (view-good r o .deletion-ascends) j t)
+        (missing-find key (key l) (contents r .held) (view-good r o .held-ascends) i s) c)
+
+    named-by : (e : Deed) → deedOf (contents r) l ≡ e → namedAfter e (f .in_held) (f .in_deletions) (named (contents r)) ≡ named (step (contents r) l .after)
+    named-by (Leave m) p = sym (named-leave (contents r) l m p)
+    named-by (Hold m) p = one-more (λ n q. let z : _≡_ {A = ℕ} 0 1 = cc in omega arith) (f .in_held) (f .in_deletions) refl refl
+    named-by (Note v) p = one-more (λ n q. let z : _≡_ {A = ℕ} 0 1 = cc in omega arith) (f .in_held) (f .in_deletions) refl refl
+    named-by (Wipe v) p = one-more (λ n q. let z : _≡_ {A = ℕ} 0 1 = cc in omega arith) (f .in_held) (f .in_deletions) refl refl
+
+    -- an acceptable line, taken
+    pub took : Acceptable l → (e : Deed) → e ≡ deedOf (contents r) l → (m : ℕ) → m ≡ named (contents r) → (after : List ℕ) → after ≡ roomAfter r l → (t : Taken)
+        → t .call ≡ record { number = answered e; column = 0 } → t .named ≡ namedAfter e (f .in_held) (f .in_deletions) m → Took r l after t
+    unfolding kind step
+    took a e p m q after w t u v =
+        let answers : answered e ≡ step (contents r) l .answer = sym (done-answer e) ∙ ap (λ (x : Deed). done x (contents r) l .answer) p in
+        record {
+          call-is =
+              u ∙ ap₂ (λ (x y : ℕ). record { number = x; column = y }) answers (sym (at-zero (readLine l) a)) ∙ sym (call-is r o l);
+          room-is = w;
+          ordered = subst Ordered (sym w) (ordered-after r o l);
+          named-are =
+              v ∙ ap (namedAfter e (f .in_held) (f .in_deletions)) q ∙ named-by e (sym p) ∙ ap named (sym (after-contents r o l)) ∙ ap (λ (x : List ℕ). named (contents x)) (sym w);
+        }
+
+  -- a refused line
+  pub took-refused : (n k : ℕ) → readLine l ≡ refusal n k → (m : ℕ) → m ≡ named (contents r) → (t : Taken) → t .call ≡ record { number = n; column = k } → t .named ≡ m → Took r l r t
+  unfolding kind step done
+  took-refused n k e m q t u v =
+      let d : deedOf (contents r) l ≡ Leave n = deed-refused (contents r) l (ap kindOf e) ∙ ap (λ (a : Answer Message). Leave (refusedBy a)) e in
+      let s : r ≡ roomAfter r l = left r o l n d in
+      record {
+        call-is =
+            u ∙ ap₂ (λ (x y : ℕ). record { number = x; column = y }) (sym (ap (λ (x : Deed). done x (contents r) l .answer) d)) (sym (ap refusedAt e)) ∙ sym (call-is r o l);
+        room-is = s;
+        ordered = o;
+        named-are = v ∙ q;
+      }

@@ -1,0 +1,10 @@
+pub mod Wide
+pub mod Splicing
+pub mod Keys
+pub mod Search
+pub mod Rows
+pub mod Laid
+pub mod RowMoves
+pub mod Seek
+pub mod Put
+pub mod Parts

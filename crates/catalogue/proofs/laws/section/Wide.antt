@@ -1,0 +1,35 @@
+-- Rows of one width, and sections that fit.
+use Prim.Native.Nat.{ℕ, zero, suc, _≤_}
+use mathlib.Core.Path.{_≡_}
+use mathlib.Core.List.{List, [], _∷_, _++_, List·Memᴰ, List·Memᴰ·head, List·Memᴰ·tail}
+use lib.ListN.{length, take, drop, set}
+use mathlib.Core.Path.{refl}
+use Rattle.catalogue.specs.Section.{Part}
+
+-- each row has w bytes
+abbrev pub Wide : ℕ → List (List ℕ) → Type 0
+Wide w [] = Unit {0}
+Wide w (x ∷ xs) = (length x ≡ w) × Wide w xs
+
+-- each section's rows have their width, and are not too many
+abbrev pub Fits : List Part → Type 0
+Fits [] = Unit {0}
+Fits (p ∷ ps) = (Wide (p .size) (p .entries) × (length (p .entries) ≤ p .most)) × Fits ps
+
+pub wide : (w : ℕ) (xs : List (List ℕ)) → ((x : List ℕ) → List·Memᴰ x xs → length x ≡ w) → Wide w xs
+wide w [] f = tt
+wide w (x ∷ xs) f = (f x (List·Memᴰ·head refl), wide w xs (λ (y : List ℕ) (m : List·Memᴰ y xs). f y (List·Memᴰ·tail m)))
+
+pub wide-take : (w j : ℕ) (xs : List (List ℕ)) → Wide w xs → Wide w (take j xs)
+wide-take w zero xs h = tt
+wide-take w (suc j) [] h = tt
+wide-take w (suc j) (x ∷ xs) h = (h .0, wide-take w j xs (h .1))
+
+pub wide-drop : (w j : ℕ) (xs : List (List ℕ)) → Wide w xs → Wide w (drop j xs)
+wide-drop w zero xs h = h
+wide-drop w (suc j) [] h = tt
+wide-drop w (suc j) (x ∷ xs) h = wide-drop w j xs (h .1)
+
+pub wide-append : (w : ℕ) (xs ys : List (List ℕ)) → Wide w xs → Wide w ys → Wide w (xs ++ ys)
+wide-append w [] ys h k = k
+wide-append w (x ∷ xs) ys h k = (h .0, wide-append w xs ys (h .1) k)

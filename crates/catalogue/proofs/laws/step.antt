@@ -1,0 +1,9 @@
+pub mod Line
+pub mod Names
+pub mod Good
+pub mod Decide
+pub mod Fair
+pub mod Done
+pub mod Keep
+pub mod Untouched
+pub mod Count

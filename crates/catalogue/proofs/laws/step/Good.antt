@@ -1,0 +1,131 @@
+-- A catalogue in order: document 01's test, and what it says of what is found.
+use Prim.Native.Nat.{ℕ, _≤_, _<_}
+use mathlib.Core.Path.{_≡_, refl, _∙_, ap}
+use mathlib.Core.Bool.{true, _&&_}
+use mathlib.Core.List.{List, [], map, List·Memᴰ}
+use mathlib.Core.Option.{Option, none, some}
+use native.Mathlib.Omega.{arith}
+use lib.Dec.{leb, eqb}
+use lib.ListN.{length, length-map}
+use borrow.Author.Tests.{ltb-true, leb-true, eqb-true, le-leb, lt-ltb}
+use Rattle.columns.specs.Bytes.{barred}
+use Rattle.catalogue.specs.Assoc.{find, AscFrom}
+use Rattle.catalogue.specs.Line.{Kind, event, delete, blank, refused, kind, version, key, deletionKey, deletionVersion}
+use Rattle.catalogue.specs.Catalogue.{Catalogue, empty, parts, onlyHeld, named}
+use Rattle.catalogue.specs.Good.{ascends, every, isEvent, aboveDeletion, heldOk, deletionOk, good}
+use Rattle.catalogue.proofs.laws.assoc.Assoc.{find-key}
+use Rattle.catalogue.proofs.laws.assoc.Distinct.{pigeon}
+use Rattle.catalogue.proofs.laws.assoc.Members.{keys-distinct, found, found-self}
+use Rattle.catalogue.proofs.laws.assoc.Tests.{and-both, asc-of, ascends-true, every-true, every-find}
+use Rattle.catalogue.proofs.laws.section.Wide.{Fits, wide}
+use Rattle.catalogue.proofs.laws.step.Line.{event-length}
+use Rattle.catalogue.proofs.laws.step.Names.{names, names-length, names-mem}
+
+pub record Good (c : Catalogue) : Type 0 where
+  pub held-ascends : AscFrom key 0 (c .held)
+  pub deletion-ascends : AscFrom deletionKey 0 (c .deletions)
+  pub held-fine : (k : ℕ) (h : List ℕ) → find key k (c .held) ≡ some h
+      → (kind h ≡ event) × ((d : List ℕ) → find deletionKey k (c .deletions) ≡ some d → deletionVersion d < version h)
+  pub deletion-fine : (k : ℕ) (d : List ℕ) → find deletionKey k (c .deletions) ≡ some d → deletionOk d ≡ true
+  pub few : named c ≤ 512
+
+-- ---- the test, taken apart and put together
+
+event-of : (t : Kind) → isEvent t ≡ true → t ≡ event
+unfolding isEvent
+event-of event h = refl
+event-of delete h = let z : _≡_ {A = ℕ} 0 1 = cc in absurd (omega arith)
+event-of blank h = let z : _≡_ {A = ℕ} 0 1 = cc in absurd (omega arith)
+event-of refused h = let z : _≡_ {A = ℕ} 0 1 = cc in absurd (omega arith)
+
+above-of : (o : Option (List ℕ)) (h : List ℕ) → aboveDeletion o h ≡ true → (d : List ℕ) → o ≡ some d → deletionVersion d < version h
+unfolding aboveDeletion
+above-of none h e d q = let z : _≡_ {A = ℕ} 0 1 = cc in absurd (omega arith)
+above-of (some x) h e d q = let u : x ≡ d = cc in omega (arith, ltb-true (deletionVersion x) (version h) e, ap deletionVersion u)
+
+above-true : (o : Option (List ℕ)) (h : List ℕ) → ((d : List ℕ) → o ≡ some d → deletionVersion d < version h) → aboveDeletion o h ≡ true
+unfolding aboveDeletion
+above-true none h f = refl
+above-true (some d) h f = lt-ltb (deletionVersion d) (version h) (f d refl)
+
+module _ (deletions : List (List ℕ)) (h : List ℕ) where
+  held-ok-parts : (k : ℕ) → key h ≡ k → heldOk deletions h ≡ true → (kind h ≡ event) × ((d : List ℕ) → find deletionKey k deletions ≡ some d → deletionVersion d < version h)
+  unfolding heldOk
+  held-ok-parts k e o =
+      let r = and-both (isEvent (kind h)) (aboveDeletion (find deletionKey (key h) deletions) h) o in
+      (event-of (kind h) (r .0), λ (d : List ℕ) (q : find deletionKey k deletions ≡ some d). above-of (find deletionKey (key h) deletions) h (r .1) d (ap (λ (j : ℕ). find deletionKey j deletions) e ∙ q))
+
+  held-ok-join : kind h ≡ event → ((d : List ℕ) → find deletionKey (key h) deletions ≡ some d → deletionVersion d < version h) → heldOk deletions h ≡ true
+  unfolding heldOk isEvent
+  held-ok-join e f = simp (e, above-true (find deletionKey (key h) deletions) h f)
+
+pub good-of : (c : Catalogue) → good c ≡ true → Good c
+unfolding good
+good-of c g =
+    let r = and-both (ascends key 0 (c .held) && ascends deletionKey 0 (c .deletions)) ((every (heldOk (c .deletions)) (c .held) && every deletionOk (c .deletions)) && leb (named c) 512) g in
+    let a = and-both (ascends key 0 (c .held)) (ascends deletionKey 0 (c .deletions)) (r .0) in
+    let s = and-both (every (heldOk (c .deletions)) (c .held) && every deletionOk (c .deletions)) (leb (named c) 512) (r .1) in
+    let e = and-both (every (heldOk (c .deletions)) (c .held)) (every deletionOk (c .deletions)) (s .0) in
+    record {
+      held-ascends = asc-of key 0 (c .held) (a .0);
+      deletion-ascends = asc-of deletionKey 0 (c .deletions) (a .1);
+      held-fine =
+          λ (k : ℕ) (h : List ℕ) (q : find key k (c .held) ≡ some h).
+          held-ok-parts (c .deletions) h k (find-key key (c .held) k h q) (every-find (heldOk (c .deletions)) key (c .held) k h (e .0) q);
+      deletion-fine = λ (k : ℕ) (d : List ℕ) (q : find deletionKey k (c .deletions) ≡ some d). every-find deletionOk deletionKey (c .deletions) k d (e .1) q;
+      few = leb-true (named c) 512 (s .1);
+    }
+
+-- ---- a catalogue in order
+
+deletion-wide : (d : List ℕ) → deletionOk d ≡ true → length d ≡ 11
+unfolding deletionOk
+deletion-wide d h = eqb-true (length d) 11 (and-both (eqb (length d) 11) (eqb (barred 1 11 1 d) 0) h .0)
+
+module _ (c : Catalogue) (G : Good c) where
+  held-at : (h : List ℕ) → List·Memᴰ h (c .held) → (kind h ≡ event) × ((d : List ℕ) → find deletionKey (key h) (c .deletions) ≡ some d → deletionVersion d < version h)
+  held-at h m = G .held-fine (key h) h (found-self key (c .held) 0 h (G .held-ascends) m .1)
+
+  deletion-at : (d : List ℕ) → List·Memᴰ d (c .deletions) → deletionOk d ≡ true
+  deletion-at d m = G .deletion-fine (deletionKey d) d (found-self deletionKey (c .deletions) 0 d (G .deletion-ascends) m .1)
+
+  pub good-back : good c ≡ true
+  unfolding good
+  good-back =
+      simp (
+        ascends-true key 0 (c .held) (G .held-ascends),
+        ascends-true deletionKey 0 (c .deletions) (G .deletion-ascends),
+        every-true (heldOk (c .deletions)) (c .held) (λ (h : List ℕ) (m : List·Memᴰ h (c .held)). let w = held-at h m in held-ok-join (c .deletions) h (w .0) (w .1)),
+        every-true deletionOk (c .deletions) deletion-at,
+        le-leb (named c) 512 (G .few),
+      )
+
+  held-few : length (c .held) ≤ named c
+  held-few =
+      omega (
+        arith,
+        names-length c,
+        simp length-map at (pigeon (map key (c .held)) (names c) (keys-distinct key (c .held) 0 (G .held-ascends))
+            (λ (z : ℕ) (m : List·Memᴰ z (map key (c .held))). names-mem c z (λ (p : find deletionKey z (c .deletions) ≡ none) (q : find key z (c .held) ≡ none).
+            let r = found key (c .held) z m in let u : _≡_ {A = ℕ} 0 1 = cc (r .1) in omega arith))),
+      )
+
+  deletion-few : length (c .deletions) ≤ named c
+  unfolding named
+  deletion-few = omega arith
+
+  pub good-fits : Fits (parts c)
+  good-fits = (
+    (wide 80 (c .held) (λ (h : List ℕ) (m : List·Memᴰ h (c .held)). event-length h (held-at h m .0)), omega (arith, held-few, G .few)),
+    ((wide 11 (c .deletions) (λ (d : List ℕ) (m : List·Memᴰ d (c .deletions)). deletion-wide d (deletion-at d m)), omega (arith, deletion-few, G .few)), tt),
+  )
+
+pub empty-good : Good empty
+unfolding find named onlyHeld
+empty-good = record {
+  held-ascends = tt;
+  deletion-ascends = tt;
+  held-fine = λ (k : ℕ) (h : List ℕ) (e : find key k [] ≡ some h). let z : _≡_ {A = ℕ} 0 1 = cc in absurd (omega arith);
+  deletion-fine = λ (k : ℕ) (d : List ℕ) (e : find deletionKey k [] ≡ some d). let z : _≡_ {A = ℕ} 0 1 = cc in absurd (omega arith);
+  few = omega arith;
+}

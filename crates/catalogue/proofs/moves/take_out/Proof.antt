@@ -1,0 +1,41 @@
+-- The entry lies in the section, and the section before the end.
+use borrow.Author.Needs.{needs}
+use native.Mathlib.Omega.{arith}
+use Rattle.catalogue.proofs.moves.take_out.Statement.{statement}
+use Rattle.catalogue.proofs.moves.take_out.Tie as tie
+use mathlib.Core.Path.{_∙_, ap}
+use mathlib.Core.List.{List}
+use Prim.Native.Nat.{ℕ, _-_}
+use Rattle.catalogue.specs.Splice.{cutOut, counted}
+use Rattle.catalogue.specs.Moves.{takenOut}
+use Rattle.catalogue.proofs.laws.section.Rows.{row-inside}
+
+entry-at-requires : tie.Need-entry-at-requires
+entry-at-requires c κs = search needs
+
+cut-requires : tie.Need-cut-requires
+cut-requires c κs =
+    let d = c .before .before .before .before in
+    (omega (arith, c .before .entry-at .ensures, row-inside (d .args .of .size) (d .args .i) (d .args .of .count) (d .pre .4), d .pre .1), d .pre .2)
+
+sub-set-count : tie.Need-sub-set-count
+sub-set-count c = search needs
+
+set-count-requires : tie.Need-set-count-requires
+set-count-requires c κs = search needs
+
+same-length : tie.Need-same-length
+same-length c = search needs
+
+returns : tie.Need-returns
+unfolding takenOut
+returns c =
+    let d = c .before .before .before .before .before .before .before .before .before .before .before .before in
+    c .before .before .set-count .ensures
+    ∙ ap (λ (x : List ℕ). counted x (d .args .of .at) (d .args .of .count - 1)) (c .before .before .before .before .before .before .before .cut .ensures)
+    ∙ ap (λ (at : ℕ). counted (cutOut (d .args .room .now) at (d .args .used) (d .args .of .size)) (d .args .of .at) (d .args .of .count - 1)) (c .before .before .before .before .before .before .before .before .before .entry-at .ensures)
+
+pub take-out-spec : {M : Type 1} → statement M
+take-out-spec =
+    tie.close
+    (tie.spec entry-at-requires cut-requires sub-set-count set-count-requires same-length returns)

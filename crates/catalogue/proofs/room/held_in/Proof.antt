@@ -1,0 +1,17 @@
+-- The count is the first two bytes.
+use borrow.Author.Needs.{needs}
+use native.Mathlib.Omega.{arith}
+use Rattle.catalogue.proofs.room.held_in.Statement.{statement}
+use Rattle.catalogue.proofs.room.held_in.Tie as tie
+use mathlib.Core.Path.{ap}
+use Prim.Native.Nat.{ℕ}
+use Rattle.catalogue.specs.Places.{heldIn}
+
+word2-requires : tie.Need-word2-requires
+word2-requires c κs = search needs
+
+returns : tie.Need-returns
+returns c = rw (c .word2 .ensures .0)
+
+pub held-in-spec : {M : Type 1} → statement M
+held-in-spec = tie.close (tie.spec word2-requires returns)

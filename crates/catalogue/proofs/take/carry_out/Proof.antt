@@ -1,0 +1,107 @@
+-- Deed by deed: the bytes moved are those of the room after the line.
+use borrow.Author.Needs.{needs}
+use native.Mathlib.Omega.{arith}
+use Rattle.catalogue.proofs.take.carry_out.Statement.{statement}
+use Rattle.catalogue.proofs.take.carry_out.Tie as tie
+use mathlib.Core.Path.{_≡_, sym, _∙_, ap, ap₂}
+use mathlib.Core.List.{List}
+use Prim.Native.Nat.{ℕ}
+use Rattle.catalogue.specs.declared.section.Section.{Section}
+use Rattle.catalogue.specs.Moves.{putIn}
+use Rattle.catalogue.specs.Places.{endOf}
+use Rattle.catalogue.proofs.laws.room.Places.{used-fits}
+use Rattle.catalogue.proofs.laws.room.Carry.{left, hold-length, hold-few, hold-room, held-asks, held-put, note-able, note-room}
+
+enum-told : tie.Need-enum-told
+enum-told c = search needs
+
+enum-told-2 : tie.Need-enum-told-2
+enum-told-2 c = search needs
+
+end-of-requires : tie.Need-end-of-requires
+end-of-requires c κs =
+    let d = c .before .before .before .before .before .before .before in
+    rw (d .pre .1 .deletions-are) (omega (arith, used-fits (d .args .room .now) (d .pre .0), d .pre .0 .long))
+
+put-requires : tie.Need-put-requires
+put-requires c κs =
+    let d = c .before .before .before .before .before .before .before .before .before in
+    let a = d .args in
+    let r = a .room .now in
+    let p = sym (d .pre .2) ∙ c .before .before .before .enum-told2 .given .1 in
+    held-asks (a .room .now) (d .pre .0) (a .line .now) (hold-length (a .room .now) (d .pre .0) (a .line .now) _ p) (hold-few (a .room .now) (d .pre .0) (a .line .now) _ p) (a .f .in_held) (d .pre .1 .in-held)
+    (a .f .held) (d .pre .1 .held-is) (c .before .end-of .result) (c .before .end-of .ensures ∙ ap endOf (d .pre .1 .deletions-are))
+
+enum-known-deed : tie.Need-enum-known-deed
+enum-known-deed c = search needs
+
+note-requires : tie.Need-note-requires
+note-requires c κs =
+    let d = c .before .before .before .before .before .before .before .before in
+    let a = d .args in
+    let g = c .before .before .deed .given in
+    (d .pre .0, d .pre .1 .deletions-are, note-able (a .room .now) (d .pre .0) (a .line .now) (a .f) (d .pre .1) (g .0 .0) (sym (d .pre .2) ∙ g .1))
+
+enum-known-deed-2 : tie.Need-enum-known-deed-2
+enum-known-deed-2 c = search needs
+
+wipe-requires : tie.Need-wipe-requires
+wipe-requires c κs =
+    let d = c .before .before .before .before .before .before .before .before in
+    (d .pre .0, d .pre .1, sym (d .pre .2) ∙ c .before .before .deed2 .given .1)
+
+returns : tie.Need-returns
+returns c =
+    let d = c .before .before .before .before .before .before in
+    let g = c .enum-told .given in
+    left (d .args .room .now) (d .pre .0) (d .args .line .now) (g .0 .0) (sym (d .pre .2) ∙ g .1)
+
+same-length : tie.Need-same-length
+same-length c = search needs
+
+returns-2 : tie.Need-returns-2
+returns-2 c =
+    let d = c .before .before .before .before .before .before .before .before .before .before .before .before in
+    let a = d .args in
+    let g = c .before .before .before .before .before .before .enum-told2 .given in
+    let p = sym (d .pre .2) ∙ g .1 in
+    c .before .before .put .ensures
+    ∙ ap₂ (λ (s : Section) (n : ℕ). putIn (a .room .now) s n (a .f .in_held) (a .line .now)) (d .pre .1 .held-is) (c .before .before .before .before .end-of .ensures ∙ ap endOf (d .pre .1 .deletions-are))
+    ∙ held-put (a .room .now) (d .pre .0) (a .line .now) (hold-length (a .room .now) (d .pre .0) (a .line .now) (g .0 .0) p) (hold-few (a .room .now) (d .pre .0) (a .line .now) (g .0 .0) p) (a .f .in_held) (d .pre .1 .in-held)
+    ∙ hold-room (a .room .now) (d .pre .0) (a .line .now) (g .0 .0) p
+
+same-length-2 : tie.Need-same-length-2
+same-length-2 c = search needs
+
+returns-3 : tie.Need-returns-3
+returns-3 c =
+    let d = c .before .before .before .before .before .before .before .before .before .before .before in
+    let a = d .args in
+    let g = c .before .before .before .before .before .deed .given in
+    c .before .before .note .ensures ∙ note-room (a .room .now) (d .pre .0) (a .line .now) (a .f) (d .pre .1) (g .0 .0) (sym (d .pre .2) ∙ g .1)
+
+same-length-3 : tie.Need-same-length-3
+same-length-3 c = search needs
+
+returns-4 : tie.Need-returns-4
+returns-4 c = c .before .before .wipe .ensures
+
+pub carry-out-spec : {M : Type 1} → statement M
+carry-out-spec =
+    tie.close
+    (tie.spec
+    enum-told
+    enum-told-2
+    end-of-requires
+    put-requires
+    enum-known-deed
+    note-requires
+    enum-known-deed-2
+    wipe-requires
+    returns
+    same-length
+    returns-2
+    same-length-2
+    returns-3
+    same-length-3
+    returns-4)

@@ -1,0 +1,48 @@
+-- Deed by deed.
+use borrow.Author.Needs.{needs}
+use native.Mathlib.Omega.{arith}
+use Rattle.catalogue.proofs.take.declined.Statement.{statement}
+use Rattle.catalogue.proofs.take.declined.Tie as tie
+use mathlib.Core.Path.{sym, ap}
+use Rattle.catalogue.specs.Taking.{declined}
+
+enum-known-deed : tie.Need-enum-known-deed
+enum-known-deed c = search needs
+
+enum-told : tie.Need-enum-told
+enum-told c = search needs
+
+enum-told-2 : tie.Need-enum-told-2
+enum-told-2 c = search needs
+
+enum-told-3 : tie.Need-enum-told-3
+enum-told-3 c = search needs
+
+returns : tie.Need-returns
+unfolding declined
+returns c = sym (ap declined (c .before .deed .given .1))
+
+returns-2 : tie.Need-returns-2
+unfolding declined
+returns-2 c = sym (ap declined (c .enum-told .given .1))
+
+returns-3 : tie.Need-returns-3
+unfolding declined
+returns-3 c = sym (ap declined (c .enum-told2 .given .1))
+
+returns-4 : tie.Need-returns-4
+unfolding declined
+returns-4 c = sym (ap declined (c .enum-told3 .given .1))
+
+pub declined-spec : {M : Type 1} → statement M
+declined-spec =
+    tie.close
+    (tie.spec
+    enum-known-deed
+    enum-told
+    enum-told-2
+    enum-told-3
+    returns
+    returns-2
+    returns-3
+    returns-4)

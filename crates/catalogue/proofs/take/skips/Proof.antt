@@ -1,0 +1,51 @@
+-- Only an event whose pair is held.
+use borrow.Author.Needs.{needs}
+use native.Mathlib.Omega.{arith}
+use Rattle.catalogue.proofs.take.skips.Statement.{statement}
+use Rattle.catalogue.proofs.take.skips.Tie as tie
+use mathlib.Core.Path.{_≡_, sym, subst}
+use mathlib.Core.Bool.{true, false}
+use Prim.Native.Nat.{ℕ}
+use Rattle.catalogue.specs.declared.section.Seek.{Seek}
+use Rattle.catalogue.specs.Findings.{IsFound}
+
+enum-told : tie.Need-enum-told
+enum-told c = search needs
+
+enum-told-2 : tie.Need-enum-told-2
+enum-told-2 c = search needs
+
+enum-told-3 : tie.Need-enum-told-3
+enum-told-3 c = search needs
+
+enum-told-4 : tie.Need-enum-told-4
+enum-told-4 c = search needs
+
+enum-told-5 : tie.Need-enum-told-5
+enum-told-5 c = search needs
+
+returns : tie.Need-returns
+returns c = λ (e : false ≡ true). let z : _≡_ {A = ℕ} 0 1 = cc in absurd (omega arith)
+
+returns-2 : tie.Need-returns-2
+returns-2 c = λ (e : false ≡ true). let z : _≡_ {A = ℕ} 0 1 = cc in absurd (omega arith)
+
+returns-3 : tie.Need-returns-3
+returns-3 c = λ (e : false ≡ true). let z : _≡_ {A = ℕ} 0 1 = cc in absurd (omega arith)
+
+returns-4 : tie.Need-returns-4
+returns-4 c = λ (e : true ≡ true). (c .before .before .enum-told3 .given .1, subst IsFound (sym (c .enum-told5 .given .1)) tt)
+
+pub skips-spec : {M : Type 1} → statement M
+skips-spec =
+    tie.close
+    (tie.spec
+    enum-told
+    enum-told-2
+    enum-told-3
+    enum-told-4
+    enum-told-5
+    returns
+    returns-2
+    returns-3
+    returns-4)

@@ -1,0 +1,38 @@
+-- The numbers that the catalogue answers, beside those of a line. Document 01, "Numbers answered".
+use Prim.Native.Nat.{ℕ}
+
+-- refusals: a new pair while 512 are named; a catalogue that is not in order
+abbrev pub full : ℕ
+full = 12
+
+abbrev pub notInOrder : ℕ
+notInOrder = 13
+
+-- what was taken
+abbrev pub stored : ℕ
+stored = 20
+
+abbrev pub replaced : ℕ
+replaced = 21
+
+abbrev pub repeated : ℕ
+repeated = 22
+
+abbrev pub outdated : ℕ
+outdated = 23
+
+abbrev pub removed : ℕ
+removed = 24
+
+abbrev pub noted : ℕ
+noted = 25
+
+abbrev pub nothingHeld : ℕ
+nothingHeld = 26
+
+-- looked up
+abbrev pub isHeld : ℕ
+isHeld = 27
+
+abbrev pub notHeld : ℕ
+notHeld = 28

@@ -1,0 +1,42 @@
+// The sections of a room: held lines, then deletions.
+use super::key::word2;
+use super::section::Section;
+ghost use mathlib.Core.Path.{_≡_};
+ghost use Prim.Native.Nat.{_+_, _≤_};
+ghost use lib.ListN.{length};
+ghost use Rattle.catalogue.specs.Places.{endOf, heldIn, deletionsIn};
+
+// Where a section of a room ends.
+pub fn end_of(room: &[u8], of: Section) -> usize
+    requires { ⌜ endOf of ≤ length (now room) ⌝ }
+    ensures { λ r. ⌜ r ≡ endOf of ⌝ }
+{
+    of.at + 2 + of.size * of.count
+}
+
+pub fn held_in(room: &[u8]) -> Section
+    requires { ⌜ 2 ≤ length (now room) ⌝ }
+    ensures { λ r. ⌜ r ≡ heldIn (now (room .entry)) ⌝ }
+{
+    Section {
+        at: 0,
+        count: word2(room, 0) as usize,
+        size: 80,
+        source: 10,
+        identifier: 2,
+    }
+}
+
+pub fn deletions_in(room: &[u8], held: Section) -> Section
+    requires { ⌜ (held ≡ heldIn (now room)) × (endOf held + 2 ≤ length (now room)) ⌝ }
+    ensures { λ r. ⌜ r ≡ deletionsIn (now (room .entry)) ⌝ }
+{
+    let at = end_of(room, held);
+    Section {
+        at,
+        count: word2(room, at) as usize,
+        size: 11,
+        source: 0,
+        identifier: 2,
+    }
+}
