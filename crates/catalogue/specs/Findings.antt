@@ -1,5 +1,5 @@
 -- What the code finds of a line's pair before it decides, and what it answers after.
-use Prim.Native.Nat.{ℕ, suc, _≤_, _<_}
+use Prim.Native.Nat.{ℕ, suc, _≤_}
 use mathlib.Core.Path.{_≡_}
 use mathlib.Core.Logic.{_⊎_}
 use mathlib.Core.List.{List}
@@ -24,7 +24,7 @@ use Rattle.catalogue.specs.Line.{Kind, event, delete, blank, kind, key, 
 use Rattle.catalogue.specs.Catalogue.{named}
 use Rattle.catalogue.specs.Room.{contents, callOf, roomAfter}
 use Rattle.catalogue.specs.Ordered.{Ordered}
-use Rattle.catalogue.specs.Entries.{entriesOf, Inside, Sought, placeOf}
+use Rattle.catalogue.specs.Entries.{Inside, Sought, placeOf}
 use Rattle.catalogue.specs.Places.{heldIn, deletionsIn}
 
 -- the kind of line that a notice is

@@ -1,9 +1,9 @@
 -- The moves that a deed makes, on a room in order.
-use Prim.Native.Nat.{ℕ, suc, _+_, _*_, _-_, _≤_, _<_}
+use Prim.Native.Nat.{ℕ, _+_, _-_, _≤_, _<_}
 use mathlib.Core.Path.{_≡_, refl, sym, _∙_, ap, ap₂, subst}
 use mathlib.Core.Logic.{_⊎_, inl, inr}
 use mathlib.Core.List.{List, [], _∷_, _++_}
-use mathlib.Core.Option.{Option, none, some}
+use mathlib.Core.Option.{some}
 use native.Mathlib.Omega.{arith}
 use lib.ListN.{length, drop, getD}
 use Rattle.catalogue.specs.declared.section.Section.{Section}
@@ -12,19 +12,19 @@ use Rattle.catalogue.specs.declared.section.Seek.the-variants.{Found, Mi
 use Rattle.catalogue.specs.declared.take.Deed.{Deed}
 use Rattle.catalogue.specs.declared.take.Deed.the-variants.{Leave, Hold, Note, Wipe}
 use Rattle.catalogue.specs.declared.take.Findings.{Findings}
-use Rattle.catalogue.specs.Assoc.{find, put, remove, AscFrom}
-use Rattle.catalogue.specs.Line.{Acceptable, event, kind, key, deletion, deletionKey}
-use Rattle.catalogue.specs.Section.{Part, part, laid, capacity}
+use Rattle.catalogue.specs.Assoc.{put, remove}
+use Rattle.catalogue.specs.Line.{event, kind, key, deletion, deletionKey}
+use Rattle.catalogue.specs.Section.{part, capacity}
 use Rattle.catalogue.specs.Catalogue.{Catalogue, parts, withHeld, withDeletions}
-use Rattle.catalogue.specs.Taking.{Taken, overHeld, deedOf, done, step}
-use Rattle.catalogue.specs.Room.{roomOf, roomSize, encode, contents, roomAfter}
+use Rattle.catalogue.specs.Taking.{overHeld, deedOf, done, step}
+use Rattle.catalogue.specs.Room.{roomSize, encode, contents, roomAfter}
 use Rattle.catalogue.specs.Ordered.{Ordered}
-use Rattle.catalogue.specs.Entries.{Sought, entryOf, RoomFor, Inside, placeOf}
+use Rattle.catalogue.specs.Entries.{Sought, RoomFor, Inside, placeOf}
 use Rattle.catalogue.specs.Moves.{putIn, takenOut}
 use Rattle.catalogue.specs.Places.{endOf, heldIn, deletionsIn}
 use Rattle.catalogue.specs.Findings.{IsFound, Known, Notable}
 use Rattle.catalogue.proofs.laws.section.Wide.{Fits}
-use Rattle.catalogue.proofs.laws.section.Parts.{Stands, put-section, put-room, cut-section}
+use Rattle.catalogue.proofs.laws.section.Parts.{put-section, put-room, cut-section}
 use Rattle.catalogue.proofs.laws.section.Seek.{found-find, missing-find}
 use Rattle.catalogue.proofs.laws.step.Line.{whole, event-length, deletion-key, deletion-length}
 use Rattle.catalogue.proofs.laws.step.Good.{Good, good-fits}

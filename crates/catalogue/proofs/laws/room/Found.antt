@@ -1,8 +1,8 @@
 -- What the code finds of a line's pair in a room in order, and that it decides what the definition does.
-use Prim.Native.Nat.{ℕ, _+_, _*_, _≤_, _<_}
+use Prim.Native.Nat.{ℕ, _+_, _≤_}
 use mathlib.Core.Path.{_≡_, refl, sym, _∙_, ap, ap₂, subst}
 use mathlib.Core.Logic.{_⊎_, inl, inr}
-use mathlib.Core.List.{List, [], _∷_, _++_}
+use mathlib.Core.List.{List, [], _∷_}
 use mathlib.Core.Option.{Option, none, some}
 use native.Mathlib.Omega.{arith}
 use lib.ListN.{length, drop, getD, length-drop}
@@ -13,11 +13,11 @@ use Rattle.catalogue.specs.declared.section.Seek.the-variants.{Found, Mi
 use Rattle.catalogue.specs.declared.take.Notice.{Notice}
 use Rattle.catalogue.specs.declared.take.Notice.the-variants.{Event, Delete, Blank}
 use Rattle.catalogue.specs.declared.take.Findings.{Findings}
-use Rattle.catalogue.specs.Assoc.{find, AscFrom, below}
-use Rattle.catalogue.specs.Line.{Acceptable, Kind, event, refused, kind, key, pair, deletion, deletionKey}
+use Rattle.catalogue.specs.Assoc.{find, AscFrom}
+use Rattle.catalogue.specs.Line.{Acceptable, Kind, event, kind, key, pair, deletion, deletionKey}
 use Rattle.catalogue.specs.Catalogue.{Catalogue, named}
-use Rattle.catalogue.specs.Taking.{covered, decide, limited, deedOf}
-use Rattle.catalogue.specs.Room.{roomSize, contents}
+use Rattle.catalogue.specs.Taking.{decide, limited, deedOf}
+use Rattle.catalogue.specs.Room.{contents}
 use Rattle.catalogue.specs.Ordered.{Ordered}
 use Rattle.catalogue.specs.Keys.{keyIn}
 use Rattle.catalogue.specs.Entries.{entriesOf, entryKey, entryOf, Inside, Sought, placeOf}
@@ -26,8 +26,7 @@ use Rattle.catalogue.specs.Findings.{noticeKind, IsFound, Placed, Known}
 use Rattle.catalogue.proofs.laws.assoc.Below.{below-le}
 use Rattle.catalogue.proofs.laws.section.Keys.{first-two, first-eight}
 use Rattle.catalogue.proofs.laws.section.Rows.{entries-length}
-use Rattle.catalogue.proofs.laws.section.Seek.{found-find, sought-find, sought-as}
-use Rattle.catalogue.proofs.laws.step.Line.{whole}
+use Rattle.catalogue.proofs.laws.section.Seek.{sought-find, sought-as}
 use Rattle.catalogue.proofs.laws.step.Decide.{covered-none, decide-event, limited-held, deed-of, held-decides}
 use Rattle.catalogue.proofs.laws.room.Encode.{room-size}
 use Rattle.catalogue.proofs.laws.room.View.{view-good}

@@ -1,17 +1,16 @@
 -- The sections of a room at the places that the code reads: for any bytes, and for a room in order.
-use Prim.Native.Nat.{ℕ, _+_, _*_, _≤_, _<_}
-use mathlib.Core.Path.{_≡_, refl, sym, _∙_, ap, ap₂, subst}
-use mathlib.Core.List.{List, [], _∷_, _++_}
+use Prim.Native.Nat.{ℕ, _≤_}
+use mathlib.Core.Path.{_≡_, refl, sym, _∙_, ap, subst}
+use mathlib.Core.List.{List, [], _∷_}
 use native.Mathlib.Omega.{arith}
-use lib.ListN.{length, take, drop, getD, length-append}
+use lib.ListN.{length, drop}
 use lib.Seq.{take-add}
 use Rattle.formats.specs.Record.{wordOf}
-use Rattle.catalogue.specs.declared.section.Section.{Section}
 use Rattle.catalogue.specs.Line.{pair, key, deletionKey}
 use Rattle.catalogue.specs.Assoc.{AscFrom}
 use Rattle.catalogue.specs.Section.{Part, part, laid, said, rows}
-use Rattle.catalogue.specs.Catalogue.{Catalogue, empty, parts, fromParts}
-use Rattle.catalogue.specs.Room.{roomSize, encode, contents, roomOf}
+use Rattle.catalogue.specs.Catalogue.{Catalogue, parts, fromParts}
+use Rattle.catalogue.specs.Room.{roomSize, contents}
 use Rattle.catalogue.specs.Ordered.{Ordered}
 use Rattle.catalogue.specs.Keys.{two, keyIn}
 use Rattle.catalogue.specs.Entries.{entriesOf, entryKey, Inside}
@@ -20,9 +19,9 @@ use Rattle.catalogue.proofs.laws.section.Wide.{Fits}
 use Rattle.catalogue.proofs.laws.section.Rows.{entries-length}
 use Rattle.catalogue.proofs.laws.section.Laid.{laid-length, said-next}
 use Rattle.catalogue.proofs.laws.section.Parts.{Stands}
-use Rattle.catalogue.proofs.laws.step.Good.{Good, good-fits}
-use Rattle.catalogue.proofs.laws.room.Encode.{laid-fits, encode-length}
-use Rattle.catalogue.proofs.laws.room.View.{view, view-good}
+use Rattle.catalogue.proofs.laws.step.Good.{good-fits}
+use Rattle.catalogue.proofs.laws.room.Encode.{laid-fits}
+use Rattle.catalogue.proofs.laws.room.View.{view-good}
 
 -- the keys of the two sections' entries
 pub held-key : (r : List ℕ) → entryKey (heldIn r) ≡ key

@@ -1,23 +1,19 @@
 -- What taking a line answers and counts, from what the code found and decided.
-use Prim.Native.Nat.{ℕ, suc, _≤_}
+use Prim.Native.Nat.{ℕ, _≤_}
 use mathlib.Core.Path.{_≡_, refl, sym, _∙_, ap, ap₂, subst}
 use mathlib.Core.Logic.{_⊎_, inl, inr}
 use mathlib.Core.Bool.{Bool, true, false}
 use mathlib.Core.List.{List, []}
-use mathlib.Core.Option.{Option, none, some}
 use native.Mathlib.Omega.{arith}
 use lib.Dec.{eqb}
-use lib.ListN.{length, getD}
+use lib.ListN.{getD}
 use borrow.Author.Tests.{eq-eqb, eqb-true}
 use Rattle.columns.specs.Answer.{pick, Answer, ok, refusal}
 use Rattle.formats.specs.Cube.{Message, eventKind, readLine, lineOf}
 use Rattle.formats.specs.declared.cube.LineRead.{LineRead}
-use Rattle.formats.specs.declared.cube.Read.{Read}
-use Rattle.formats.specs.declared.cube.Read.the-variants.{There, Refused}
-use Rattle.formats.specs.Cube as cube
+use Rattle.formats.specs.declared.cube.Read.the-variants.{There}
 use Rattle.formats.proofs.laws.CubeFields.{delete-version}
-use Rattle.formats.proofs.laws.CubeRecord.{was-event, was-delete, was-refused}
-use Rattle.catalogue.specs.declared.Call.{Call}
+use Rattle.formats.proofs.laws.CubeRecord.{was-event, was-delete}
 use Rattle.catalogue.specs.declared.section.Seek.{Seek}
 use Rattle.catalogue.specs.declared.section.Seek.the-variants.{Found, Missing}
 use Rattle.catalogue.specs.declared.take.Deed.{Deed}
@@ -26,19 +22,19 @@ use Rattle.catalogue.specs.declared.take.Notice.{Notice}
 use Rattle.catalogue.specs.declared.take.Notice.the-variants.{Event, Delete, Blank}
 use Rattle.catalogue.specs.declared.take.Findings.{Findings}
 use Rattle.catalogue.specs.declared.take.Taken.{Taken}
-use Rattle.catalogue.specs.Line.{Acceptable, Kind, event, delete, blank, refused, kindOf, kind, refusedBy, refusedAt, key, deletionKey}
-use Rattle.catalogue.specs.Catalogue.{Catalogue, named}
+use Rattle.catalogue.specs.Line.{Acceptable, event, delete, blank, refused, kindOf, kind, refusedBy, refusedAt, key, deletionKey}
+use Rattle.catalogue.specs.Catalogue.{named}
 use Rattle.catalogue.specs.Taking.{decide, limited, deedOf, done, step}
-use Rattle.catalogue.specs.Room.{contents, callOf, roomAfter}
+use Rattle.catalogue.specs.Room.{contents, roomAfter}
 use Rattle.catalogue.specs.Ordered.{Ordered}
 use Rattle.catalogue.specs.Entries.{Sought, entriesOf, entryOf}
-use Rattle.catalogue.specs.Findings.{noticeKind, noticeOf, refusedCall, IsFound, Known, answered, oneMore, namedAfter, Took}
+use Rattle.catalogue.specs.Findings.{noticeKind, noticeOf, IsFound, Known, answered, oneMore, namedAfter, Took}
 use Rattle.catalogue.proofs.laws.section.Seek.{found-find, missing-find}
 use Rattle.catalogue.proofs.laws.step.Names.{held-named, deletion-named}
 use Rattle.catalogue.proofs.laws.step.Count.{Changes, named-leave, named-known, named-new}
 use Rattle.catalogue.proofs.laws.step.Decide.{deed-refused}
 use Rattle.catalogue.proofs.laws.room.View.{view-good, call-is, room-is, ordered-after, after-contents}
-use Rattle.catalogue.proofs.laws.room.Found.{notice-ok, known-decides}
+use Rattle.catalogue.proofs.laws.room.Found.{known-decides}
 use Rattle.catalogue.proofs.laws.room.Carry.{left}
 
 -- ---- the kind of the line that was read

@@ -1,18 +1,16 @@
 -- Rows stay of one width where a row is put in or removed, and how many there are then.
-use Prim.Native.Nat.{ℕ, suc, _+_, _*_, _≤_, _<_}
-use mathlib.Core.Path.{_≡_, sym, _∙_, ap}
+use Prim.Native.Nat.{ℕ, suc}
+use mathlib.Core.Path.{_≡_, _∙_, ap}
 use mathlib.Core.List.{List, [], _∷_}
-use native.Mathlib.Omega.{arith}
-use lib.ListN.{length, length-set}
-use Rattle.catalogue.specs.declared.section.Seek.{Seek}
-use Rattle.catalogue.specs.declared.section.Seek.the-variants.{Found, Missing}
+use lib.ListN.{length}
+use Rattle.catalogue.specs.declared.section.Seek.the-variants.{Missing}
 use Rattle.catalogue.specs.Assoc.{put, remove, AscFrom}
 use Rattle.catalogue.specs.Entries.{Sought}
 use Rattle.catalogue.proofs.laws.assoc.Tri.{less, same, more, tri, eq, ne, eq?}
 use Rattle.catalogue.proofs.laws.assoc.Assoc.{put-less, put-same, put-more, remove-here, remove-there}
 use Rattle.catalogue.proofs.laws.section.Wide.{Wide}
 use Rattle.catalogue.proofs.laws.section.RowMoves.{splice-length}
-use Rattle.catalogue.proofs.laws.section.Seek.{put-missing, put-found}
+use Rattle.catalogue.proofs.laws.section.Seek.{put-missing}
 
 module _ (f : List ℕ → ℕ) (w : ℕ) where
   pub put-wide : (l : List ℕ) (xs : List (List ℕ)) → length l ≡ w → Wide w xs → Wide w (put f l xs)

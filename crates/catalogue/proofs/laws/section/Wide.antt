@@ -2,7 +2,7 @@
 use Prim.Native.Nat.{ℕ, zero, suc, _≤_}
 use mathlib.Core.Path.{_≡_}
 use mathlib.Core.List.{List, [], _∷_, _++_, List·Memᴰ, List·Memᴰ·head, List·Memᴰ·tail}
-use lib.ListN.{length, take, drop, set}
+use lib.ListN.{length, take, drop}
 use mathlib.Core.Path.{refl}
 use Rattle.catalogue.specs.Section.{Part}
 

@@ -1,6 +1,6 @@
 -- Laws of a line's pair and version, and of a deletion's bytes.
-use Prim.Native.Nat.{ℕ, _+_, _*_, _≤_, _<_}
-use mathlib.Core.Path.{_≡_, refl, sym, _∙_, ap, ap₂, subst}
+use Prim.Native.Nat.{ℕ, _+_, _≤_, _<_}
+use mathlib.Core.Path.{_≡_, refl, sym, _∙_, ap, subst}
 use mathlib.Core.Bool.{Bool, true, false}
 use mathlib.Core.List.{List, [], _∷_, _++_}
 use native.Mathlib.Omega.{arith}
@@ -14,7 +14,7 @@ use Rattle.columns.proofs.laws.Clear.{Clear, clear-take, clear-drop, clear-appe
 use Rattle.formats.specs.Cube.{Message, readLine}
 use Rattle.formats.specs.Record.{wordOf}
 use Rattle.formats.proofs.laws.CubeFields.{line-fields}
-use Rattle.formats.proofs.laws.Words.{Bytes, word-inj, clear-bytes}
+use Rattle.formats.proofs.laws.Words.{word-inj, clear-bytes}
 use Rattle.catalogue.specs.Line.{event, delete, blank, refused, kindOf, kind, Acceptable, pair, version, key, deletion, deletionKey, deletionVersion}
 use Rattle.catalogue.specs.Good.{deletionOk}
 use Rattle.formats.specs.Cube as cube

@@ -2,7 +2,6 @@
 use borrow.Author.Needs.{needs}
 use native.Mathlib.Omega.{arith}
 use mathlib.Core.Path.{sym}
-use Prim.Native.Nat.{ℕ}
 use Rattle.catalogue.proofs.laws.room.View.{call-short, room-short, call-disorder, room-disorder}
 use Rattle.catalogue.proofs.laws.room.Encode.{room-size}
 use Rattle.catalogue.proofs.laws.room.Order.{front-length, front-ordered, front-disordered, front-named}

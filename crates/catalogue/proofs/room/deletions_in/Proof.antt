@@ -1,12 +1,8 @@
 -- The count is that at the end of the held lines.
 use borrow.Author.Needs.{needs}
-use native.Mathlib.Omega.{arith}
 use Rattle.catalogue.proofs.room.deletions_in.Statement.{statement}
 use Rattle.catalogue.proofs.room.deletions_in.Tie as tie
 use mathlib.Core.Path.{_∙_, ap}
-use Prim.Native.Nat.{ℕ}
-use Rattle.catalogue.specs.declared.section.Section.{Section}
-use Rattle.catalogue.specs.Keys.{two}
 use Rattle.catalogue.specs.Places.{endOf}
 
 end-of-requires : tie.Need-end-of-requires

@@ -1,11 +1,7 @@
 -- The count is the first two bytes.
 use borrow.Author.Needs.{needs}
-use native.Mathlib.Omega.{arith}
 use Rattle.catalogue.proofs.room.held_in.Statement.{statement}
 use Rattle.catalogue.proofs.room.held_in.Tie as tie
-use mathlib.Core.Path.{ap}
-use Prim.Native.Nat.{ℕ}
-use Rattle.catalogue.specs.Places.{heldIn}
 
 word2-requires : tie.Need-word2-requires
 word2-requires c κs = search needs

@@ -4,7 +4,7 @@ use native.Mathlib.Omega.{arith}
 use Rattle.catalogue.proofs.section.ascending.Statement.{statement}
 use Rattle.catalogue.proofs.section.ascending.Tie as tie
 use mathlib.Core.Path.{_≡_, sym, _∙_, ap₂}
-use Prim.Native.Nat.{ℕ, suc, _-_, _≤_, _<_}
+use Prim.Native.Nat.{suc, _-_, _≤_, _<_}
 use mathlib.Core.List.{[]}
 use lib.Dec.{ltb}
 use lib.ListN.{drop, getD}

@@ -3,7 +3,7 @@ use borrow.Author.Needs.{needs}
 use native.Mathlib.Omega.{arith}
 use Rattle.catalogue.proofs.section.key_of.Statement.{statement}
 use Rattle.catalogue.proofs.section.key_of.Tie as tie
-use mathlib.Core.Path.{_≡_, _∙_, ap, ap₂}
+use mathlib.Core.Path.{_∙_, ap, ap₂}
 use Prim.Native.Nat.{ℕ, _+_}
 use Rattle.catalogue.specs.Keys.{keyIn}
 use Rattle.catalogue.proofs.laws.section.Rows.{entry-fits, entry-key}

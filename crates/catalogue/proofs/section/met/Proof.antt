@@ -3,7 +3,7 @@ use borrow.Author.Needs.{needs}
 use native.Mathlib.Omega.{arith}
 use Rattle.catalogue.proofs.section.met.Statement.{statement}
 use Rattle.catalogue.proofs.section.met.Tie as tie
-use mathlib.Core.Path.{_≡_, sym, _∙_, ap}
+use mathlib.Core.Path.{_≡_, sym, _∙_}
 use Prim.Native.Nat.{ℕ, _<_}
 use mathlib.Core.List.{[]}
 use mathlib.Core.Bool.{true, false}

@@ -3,11 +3,8 @@ use borrow.Author.Needs.{needs}
 use native.Mathlib.Omega.{arith}
 use Rattle.catalogue.proofs.take.covered.Statement.{statement}
 use Rattle.catalogue.proofs.take.covered.Tie as tie
-use mathlib.Core.Path.{_≡_, sym, _∙_, ap, subst}
-use mathlib.Core.List.{[]}
-use Prim.Native.Nat.{ℕ, _<_}
+use mathlib.Core.Path.{sym, _∙_, ap, subst}
 use lib.Dec.{leb}
-use lib.ListN.{getD}
 use Rattle.catalogue.specs.declared.section.Seek.{Seek}
 use Rattle.catalogue.specs.Line.{deletionVersion}
 use Rattle.catalogue.specs.Taking.{covered}

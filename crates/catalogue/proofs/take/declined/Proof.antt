@@ -1,6 +1,5 @@
 -- Deed by deed.
 use borrow.Author.Needs.{needs}
-use native.Mathlib.Omega.{arith}
 use Rattle.catalogue.proofs.take.declined.Statement.{statement}
 use Rattle.catalogue.proofs.take.declined.Tie as tie
 use mathlib.Core.Path.{sym, ap}

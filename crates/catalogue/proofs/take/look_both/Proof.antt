@@ -3,9 +3,8 @@ use borrow.Author.Needs.{needs}
 use native.Mathlib.Omega.{arith}
 use Rattle.catalogue.proofs.take.look_both.Statement.{statement}
 use Rattle.catalogue.proofs.take.look_both.Tie as tie
-use mathlib.Core.Path.{_≡_, refl, sym, _∙_, ap}
+use mathlib.Core.Path.{refl, _∙_, ap}
 use mathlib.Core.Logic.{inl, inr}
-use Prim.Native.Nat.{ℕ}
 use Rattle.catalogue.specs.Line.{key}
 use Rattle.catalogue.specs.Keys.{keyNumber}
 use Rattle.catalogue.specs.Findings.{noticeKind}

@@ -3,17 +3,14 @@ use borrow.Author.Needs.{needs}
 use native.Mathlib.Omega.{arith}
 use Rattle.catalogue.proofs.take.note.Statement.{statement}
 use Rattle.catalogue.proofs.take.note.Tie as tie
-use mathlib.Core.Path.{_≡_, sym, _∙_, ap, ap₂, subst}
+use mathlib.Core.Path.{_∙_, ap, ap₂}
 use mathlib.Core.List.{List}
-use Prim.Native.Nat.{ℕ, _+_}
-use lib.ListN.{length}
+use Prim.Native.Nat.{ℕ}
 use Rattle.catalogue.specs.declared.section.Section.{Section}
-use Rattle.catalogue.specs.Entries.{Inside, placeOf, RoomFor}
 use Rattle.catalogue.specs.Moves.{putIn}
 use Rattle.catalogue.specs.Places.{endOf, deletionsIn}
-use Rattle.catalogue.proofs.laws.step.Line.{deletion-length}
 use Rattle.catalogue.proofs.laws.room.Places.{used-fits}
-use Rattle.catalogue.proofs.laws.room.Carry.{PutAsks, deletion-asks, deletion-put}
+use Rattle.catalogue.proofs.laws.room.Carry.{deletion-asks, deletion-put}
 
 end-of-requires : tie.Need-end-of-requires
 end-of-requires c κs =

@@ -1,6 +1,4 @@
 -- By the kind of the record, then by the version.
-use borrow.Author.Needs.{needs}
-use native.Mathlib.Omega.{arith}
 use Rattle.catalogue.proofs.take.notice_of.Statement.{statement}
 use Rattle.catalogue.proofs.take.notice_of.Tie as tie
 use mathlib.Core.Path.{sym}

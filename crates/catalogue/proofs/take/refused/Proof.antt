@@ -1,6 +1,5 @@
 -- The refusal's own number and column.
 use borrow.Author.Needs.{needs}
-use native.Mathlib.Omega.{arith}
 use Rattle.catalogue.proofs.take.refused.Statement.{statement}
 use Rattle.catalogue.proofs.take.refused.Tie as tie
 use mathlib.Core.Path.{sym, ap}

@@ -6,7 +6,6 @@ use Rattle.catalogue.proofs.take.skips.Tie as tie
 use mathlib.Core.Path.{_≡_, sym, subst}
 use mathlib.Core.Bool.{true, false}
 use Prim.Native.Nat.{ℕ}
-use Rattle.catalogue.specs.declared.section.Seek.{Seek}
 use Rattle.catalogue.specs.Findings.{IsFound}
 
 enum-told : tie.Need-enum-told

@@ -3,8 +3,7 @@ use borrow.Author.Needs.{needs}
 use native.Mathlib.Omega.{arith}
 use Rattle.catalogue.proofs.take.take_notice.Statement.{statement}
 use Rattle.catalogue.proofs.take.take_notice.Tie as tie
-use mathlib.Core.Path.{_≡_, refl, sym, _∙_, ap}
-use mathlib.Core.List.{List}
+use mathlib.Core.Path.{ap}
 use Prim.Native.Nat.{ℕ}
 use Rattle.catalogue.specs.Entries.{entriesOf}
 use Rattle.catalogue.proofs.laws.step.Line.{whole}

@@ -3,9 +3,7 @@ use borrow.Author.Needs.{needs}
 use native.Mathlib.Omega.{arith}
 use Rattle.catalogue.proofs.take.take_ordered.Statement.{statement}
 use Rattle.catalogue.proofs.take.take_ordered.Tie as tie
-use mathlib.Core.Path.{_≡_, refl, sym, _∙_, ap}
-use mathlib.Core.List.{List}
-use Prim.Native.Nat.{ℕ}
+use mathlib.Core.Path.{refl, sym, _∙_, ap}
 use lib.ListN.{getD}
 use Rattle.formats.proofs.laws.CubeRecord.{was-refused}
 use Rattle.catalogue.specs.Findings.{noticeKind, noticeOf, refusedCall}

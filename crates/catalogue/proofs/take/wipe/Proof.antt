@@ -3,8 +3,7 @@ use borrow.Author.Needs.{needs}
 use native.Mathlib.Omega.{arith}
 use Rattle.catalogue.proofs.take.wipe.Statement.{statement}
 use Rattle.catalogue.proofs.take.wipe.Tie as tie
-use mathlib.Core.Path.{_≡_, refl, sym, _∙_, ap, ap₂, subst}
-use mathlib.Core.List.{List}
+use mathlib.Core.Path.{_∙_, ap, ap₂, subst}
 use Prim.Native.Nat.{ℕ}
 use Rattle.catalogue.specs.declared.section.Section.{Section}
 use Rattle.catalogue.specs.declared.section.Seek.the-variants.{Found}

@@ -1,6 +1,5 @@
 use Rattle.take.proofs.laws.Session.{cut-whole, cut-part}
 use Prim.Native.Nat.{ℕ, _-_}
-use lib.ListN.{take}
 use mathlib.Core.List.{List}
 use borrow.Author.Needs.{needs}
 use Rattle.take.proofs.session.cut_end.Statement.{statement}

@@ -1,7 +1,6 @@
 use Rattle.take.proofs.laws.Steps.{kept, answered}
 use denote.Ref.{now}
 use Prim.Native.Nat.{_-_}
-use lib.ListN.{take}
 use borrow.Author.Needs.{needs}
 use Rattle.take.proofs.session.take_next.Statement.{statement}
 use Rattle.take.proofs.session.take_next.Tie as tie

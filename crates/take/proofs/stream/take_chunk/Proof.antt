@@ -5,7 +5,7 @@ use denote.Ref.{now}
 use native.Mathlib.Omega.{arith}
 use mathlib.Core.Path.{_≡_, refl, sym, _∙_}
 use Prim.Native.Nat.{_≤_, _-_, _+_}
-use lib.ListN.{length, take, drop}
+use lib.ListN.{length, drop}
 use Rattle.take.proofs.stream.take_chunk.Statement.{statement}
 use Rattle.take.proofs.stream.take_chunk.Tie as tie
 
