@@ -21,7 +21,7 @@ use Rattle.catalogue.specs.declared.take.Deed.the-variants.{Leave, Hold,
 use Rattle.catalogue.specs.declared.take.Notice.{Notice}
 use Rattle.catalogue.specs.declared.take.Notice.the-variants.{Event, Delete, Blank}
 use Rattle.catalogue.specs.declared.take.Findings.{Findings}
-use Rattle.catalogue.specs.declared.take.Taken.{Taken}
+use Rattle.catalogue.specs.declared.take.Receipt.{Receipt}
 use Rattle.catalogue.specs.Line.{Acceptable, event, delete, blank, refused, kindOf, kind, refusedBy, refusedAt, key, deletionKey}
 use Rattle.catalogue.specs.Catalogue.{named}
 use Rattle.catalogue.specs.Taking.{decide, limited, deedOf, done, step}
@@ -113,7 +113,7 @@ module _ (r : List ℕ) (o : Ordered r) (l : List ℕ) where
     named-by (Wipe v) p = one-more (λ n q. let z : _≡_ {A = ℕ} 0 1 = cc in omega arith) (f .in_held) (f .in_deletions) refl refl
 
     -- an acceptable line, taken
-    pub took : Acceptable l → (e : Deed) → e ≡ deedOf (contents r) l → (m : ℕ) → m ≡ named (contents r) → (after : List ℕ) → after ≡ roomAfter r l → (t : Taken)
+    pub took : Acceptable l → (e : Deed) → e ≡ deedOf (contents r) l → (m : ℕ) → m ≡ named (contents r) → (after : List ℕ) → after ≡ roomAfter r l → (t : Receipt)
         → t .call ≡ record { number = answered e; column = 0 } → t .named ≡ namedAfter e (f .in_held) (f .in_deletions) m → Took r l after t
     unfolding kind step
     took a e p m q after w t u v =
@@ -128,7 +128,7 @@ module _ (r : List ℕ) (o : Ordered r) (l : List ℕ) where
         }
 
   -- a refused line
-  pub took-refused : (n k : ℕ) → readLine l ≡ refusal n k → (m : ℕ) → m ≡ named (contents r) → (t : Taken) → t .call ≡ record { number = n; column = k } → t .named ≡ m → Took r l r t
+  pub took-refused : (n k : ℕ) → readLine l ≡ refusal n k → (m : ℕ) → m ≡ named (contents r) → (t : Receipt) → t .call ≡ record { number = n; column = k } → t .named ≡ m → Took r l r t
   unfolding kind step done
   took-refused n k e m q t u v =
       let d : deedOf (contents r) l ≡ Leave n = deed-refused (contents r) l (ap kindOf e) ∙ ap (λ (a : Answer Message). Leave (refusedBy a)) e in
