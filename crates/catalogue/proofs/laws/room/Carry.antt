@@ -1,7 +1,6 @@
 -- The moves that a deed makes, on a room in order.
 use Prim.Native.Nat.{ℕ, _+_, _-_, _≤_, _<_}
 use mathlib.Core.Path.{_≡_, refl, sym, _∙_, ap, ap₂, subst}
-use mathlib.Core.Logic.{_⊎_, inl, inr}
 use mathlib.Core.List.{List, [], _∷_, _++_}
 use mathlib.Core.Option.{some}
 use native.Mathlib.Omega.{arith}
@@ -16,7 +15,7 @@ use Rattle.catalogue.specs.Assoc.{put, remove}
 use Rattle.catalogue.specs.Line.{event, kind, key, deletion, deletionKey}
 use Rattle.catalogue.specs.Section.{part, capacity}
 use Rattle.catalogue.specs.Catalogue.{Catalogue, parts, withHeld, withDeletions}
-use Rattle.catalogue.specs.Taking.{overHeld, deedOf, done, step}
+use Rattle.catalogue.specs.Taking.{deedOf, done, step}
 use Rattle.catalogue.specs.Room.{roomSize, encode, contents, roomAfter}
 use Rattle.catalogue.specs.Ordered.{Ordered}
 use Rattle.catalogue.specs.Entries.{Sought, RoomFor, Inside, placeOf}
@@ -30,11 +29,11 @@ use Rattle.catalogue.proofs.laws.step.Line.{whole, event-length, deleti
 use Rattle.catalogue.proofs.laws.step.Good.{Good, good-fits}
 use Rattle.catalogue.proofs.laws.step.Keep.{step-good, removed-good}
 use Rattle.catalogue.proofs.laws.step.Fair.{Fair, deed-fair}
-use Rattle.catalogue.proofs.laws.step.Decide.{held-decides, over-held-plain}
+use Rattle.catalogue.proofs.laws.step.Decide.{Plain, held-decides, over-held-plain}
 use Rattle.catalogue.proofs.laws.room.Encode.{encoded-ordered, encoded-contents, encoded-rest}
 use Rattle.catalogue.proofs.laws.room.View.{view, view-good, room-is}
 use Rattle.catalogue.proofs.laws.room.Places.{few as few-entries, held-inside, deletion-inside, held-stands, deletion-stands, used-is, used-fits}
-use Rattle.catalogue.proofs.laws.room.Found.{sought-place}
+use Rattle.catalogue.proofs.laws.room.Found.{sought-place, searched}
 
 room-capacity : (c : Catalogue) → capacity (parts c) ≤ roomSize
 unfolding roomSize capacity
@@ -178,23 +177,22 @@ module _ (r : List ℕ) (o : Ordered r) where
 
     -- a deletion is put only where the deletions were searched
     module _ (f : Findings) (K : Known r l f) where
-      searched : (Sought deletionKey (key l) (contents r .deletions) (f .in_deletions)) ⊎ ((kind l ≡ event) × IsFound (f .in_held) × (f .in_deletions ≡ Missing 0))
-          → ((h : List ℕ) → deedOf (contents r) l ≡ overHeld l (some h) → ⊥) → Sought deletionKey (key l) (contents r .deletions) (f .in_deletions)
-      searched (inl s) n = s
-      searched (inr u) n = absurd (by-held (f .in_held) refl (u .1))
+      deletes : (e : Deed) → deedOf (contents r) l ≡ e → (Plain e → ⊥) → Sought deletionKey (key l) (contents r .deletions) (f .in_deletions)
+      deletes e p n = searched r o l f K (λ (q : kind l ≡ event). by-held q (f .in_held) refl)
         where
-          by-held : (s : Seek) → f .in_held ≡ s → IsFound s → ⊥
-          by-held (Found i) e w =
-              let t : Sought key (key l) (contents r .held) (Found i) = subst (Sought key (key l) (contents r .held)) e (K .in-held) in
-              n (getD (contents r .held) i []) (held-decides (contents r) l (view-good r o) (getD (contents r .held) i []) (u .0) (found-find key (key l) (contents r .held) i t))
-          by-held (Missing i) e w = absurd w
+          by-held : kind l ≡ event → (s : Seek) → f .in_held ≡ s → IsFound s → ⊥
+          by-held q (Found i) g w =
+              let t : Sought key (key l) (contents r .held) (Found i) = rw g at (K .in-held) in
+              let h : List ℕ = getD (contents r .held) i [] in
+              n (subst Plain (sym (held-decides (contents r) l (view-good r o) h q (found-find key (key l) (contents r .held) i t)) ∙ p) (over-held-plain l (some h)))
+          by-held q (Missing i) g w = w
 
       module _ (v : ℕ) where
         pub note-able : deedOf (contents r) l ≡ Note v → Notable r l v (f .in_deletions)
         unfolding done
         note-able p = record {
           long = whole l (fair (Note v) p .acceptable) .long;
-          place = searched (K .in-deletions) (λ (h : List ℕ) (q : deedOf (contents r) l ≡ overHeld l (some h)). over-held-plain l (some h) .0 v (sym q ∙ p));
+          place = deletes (Note v) p (λ (u : ⊥). u);
           few = done-fits (Note v) p .1 .0 .1;
         }
 
@@ -221,8 +219,7 @@ module _ (r : List ℕ) (o : Ordered r) where
             unfolding done
             wipe-able = record {
               long = whole l (fair (Wipe v) p .acceptable) .long;
-              place = rw (cut-contents (key l) i found-in x q)
-                  (searched (K .in-deletions) (λ (h : List ℕ) (t : deedOf (contents r) l ≡ overHeld l (some h)). over-held-plain l (some h) .1 v (sym t ∙ p)));
+              place = rw (cut-contents (key l) i found-in x q) (deletes (Wipe v) p (λ (u : ⊥). u));
               few = rw (cut-contents (key l) i found-in x q) (done-fits (Wipe v) p .1 .0 .1);
             }
 

@@ -1,7 +1,6 @@
 -- What taking a line answers and counts, from what the code found and decided.
 use Prim.Native.Nat.{ℕ, _≤_}
 use mathlib.Core.Path.{_≡_, refl, sym, _∙_, ap, ap₂, subst}
-use mathlib.Core.Logic.{_⊎_, inl, inr}
 use mathlib.Core.Bool.{Bool, true, false}
 use mathlib.Core.List.{List, []}
 use native.Mathlib.Omega.{arith}
@@ -34,7 +33,7 @@ use Rattle.catalogue.proofs.laws.step.Names.{held-named, deletion-named
 use Rattle.catalogue.proofs.laws.step.Count.{Changes, named-leave, named-known, named-new}
 use Rattle.catalogue.proofs.laws.step.Decide.{deed-refused}
 use Rattle.catalogue.proofs.laws.room.View.{view-good, call-is, room-is, ordered-after, after-contents}
-use Rattle.catalogue.proofs.laws.room.Found.{known-decides}
+use Rattle.catalogue.proofs.laws.room.Found.{searched, known-decides}
 use Rattle.catalogue.proofs.laws.room.Carry.{left}
 
 -- ---- the kind of the line that was read
@@ -85,24 +84,16 @@ module _ (r : List ℕ) (o : Ordered r) (l : List ℕ) where
     decided n k m p e g q h =
         h ∙ ap₂ (λ (x : ℕ) (y : Deed). limited x (entryOf (entriesOf (f .deletions) r) (f .in_deletions)) (entryOf (entriesOf (f .held) r) (f .in_held)) y) p q ∙ known-decides r o l f K n k
 
-    -- where the pair is in no held line, the deletions were searched
-    searched : (i : ℕ) → f .in_held ≡ Missing i → Sought deletionKey (key l) (contents r .deletions) (f .in_deletions)
-    searched i p = by-found (K .in-deletions)
-      where
-        by-found : (Sought deletionKey (key l) (contents r .deletions) (f .in_deletions)) ⊎ ((kind l ≡ event) × IsFound (f .in_held) × (f .in_deletions ≡ Missing 0)) → Sought deletionKey (key l) (contents r .deletions) (f .in_deletions)
-        by-found (inl s) = s
-        by-found (inr u) = absurd (subst IsFound p (u .1))
-
     one-more : Changes (deedOf (contents r) l) → (h d : Seek) → f .in_held ≡ h → f .in_deletions ≡ d → oneMore h d (named (contents r)) ≡ named (step (contents r) l .after)
     one-more c (Found i) d p q =
         let s : Sought key (key l) (contents r .held) (Found i) = subst (Sought key (key l) (contents r .held)) p (K .in-held) in
         sym (named-known (contents r) l (view-good r o) (held-named (contents r) (key l) (getD (contents r .held) i []) (found-find key (key l) (contents r .held) i s)))
     one-more c (Missing i) (Found j) p q =
-        let s : Sought deletionKey (key l) (contents r .deletions) (Found j) = subst (Sought deletionKey (key l) (contents r .deletions)) q (searched i p) in
+        let s : Sought deletionKey (key l) (contents r .deletions) (Found j) = subst (Sought deletionKey (key l) (contents r .deletions)) q (searched r o l f K (λ (e : kind l ≡ event) (w : IsFound (f .in_held)). subst IsFound p w)) in
         sym (named-known (contents r) l (view-good r o) (deletion-named (contents r) (key l) (getD (contents r .deletions) j []) (found-find deletionKey (key l) (contents r .deletions) j s)))
     one-more c (Missing i) (Missing j) p q =
         let s : Sought key (key l) (contents r .held) (Missing i) = subst (Sought key (key l) (contents r .held)) p (K .in-held) in
-        let t : Sought deletionKey (key l) (contents r .deletions) (Missing j) = subst (Sought deletionKey (key l) (contents r .deletions)) q (searched i p) in
+        let t : Sought deletionKey (key l) (contents r .deletions) (Missing j) = subst (Sought deletionKey (key l) (contents r .deletions)) q (searched r o l f K (λ (e : kind l ≡ event) (w : IsFound (f .in_held)). subst IsFound p w)) in
         sym (named-new (contents r) l (view-good r o) (missing-find deletionKey (key l) (contents r .deletions) (view-good r o .deletion-ascends) j t)
         (missing-find key (key l) (contents r .held) (view-good r o .held-ascends) i s) c)
 

@@ -12,7 +12,7 @@ use lib.Seq.{getD-drop}
 use Rattle.formats.proofs.laws.Words.{word-nil, word-cons}
 use Rattle.catalogue.specs.declared.key.Key.{Key}
 use Rattle.catalogue.specs.Keys.{two, eight, keyIn, keyNumber}
-use Rattle.catalogue.proofs.laws.assoc.Tri.{tri, less, same, more}
+use Rattle.formats.proofs.laws.Tri.{tri, less, same, more}
 
 -- the first bytes of a list, written out
 pub first-two : (s : List ℕ) → 2 ≤ length s → take 2 s ≡ getD s 0 0 ∷ getD s 1 0 ∷ []

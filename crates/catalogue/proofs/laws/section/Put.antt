@@ -6,7 +6,8 @@ use lib.ListN.{length}
 use Rattle.catalogue.specs.declared.section.Seek.the-variants.{Missing}
 use Rattle.catalogue.specs.Assoc.{put, remove, AscFrom}
 use Rattle.catalogue.specs.Entries.{Sought}
-use Rattle.catalogue.proofs.laws.assoc.Tri.{less, same, more, tri, eq, ne, eq?}
+use Rattle.formats.proofs.laws.Tri.{less, same, more, tri}
+use Rattle.catalogue.proofs.laws.assoc.Tri.{eq, ne, eq?}
 use Rattle.catalogue.proofs.laws.assoc.Assoc.{put-less, put-same, put-more, remove-here, remove-there}
 use Rattle.catalogue.proofs.laws.section.Wide.{Wide}
 use Rattle.catalogue.proofs.laws.section.RowMoves.{splice-length}

@@ -3,7 +3,7 @@ use Prim.Native.Nat.{ℕ, suc, _+_, _-_, _≤_, _<_}
 use mathlib.Core.Path.{_≡_, sym, _∙_, ap, subst}
 use mathlib.Core.List.{List, _∷_, _++_, append-assoc}
 use native.Mathlib.Omega.{arith}
-use lib.ListN.{length, take, drop, getD, set, length-append, length-take, length-drop, take-append-drop, List·getD-append, length-replicate, getD-replicate}
+use lib.ListN.{length, take, drop, getD, set, length-drop, take-append-drop, List·getD-append, length-replicate, getD-replicate}
 use lib.Seq.{paste, paste-suc, drop-paste, getD-drop, take-append-le, take-take, take-length, drop-at, take-suc, drop-cons, set-at, getD-take, length-take-le}
 use Rattle.catalogue.specs.Splice.{opened, spliced, zeros}
 
@@ -13,10 +13,6 @@ module _ (r : List ℕ) (at used w : ℕ) (fits : used + w ≤ length r) where
   opened-start =
       let e : used - used ≡ 0 = omega arith in
       rw e (sym (take-append-drop (used + w) r))
-
-  pub opened-length : (i : ℕ) → i ≤ used → length (opened r at used w i) ≡ length r
-  unfolding opened
-  opened-length i h = simp (length-append, length-take, length-drop) (omega arith)
 
   opened-byte : (i : ℕ) → suc i ≤ used → getD (opened r at used w (suc i)) i 0 ≡ getD r i 0
   unfolding opened
