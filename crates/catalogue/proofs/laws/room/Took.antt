@@ -123,7 +123,7 @@ module _ (r : List ℕ) (o : Ordered r) (l : List ℕ) where
   unfolding kind step done
   took-refused n k e m q t u v =
       let d : deedOf (contents r) l ≡ Leave n = deed-refused (contents r) l (ap kindOf e) ∙ ap (λ (a : Answer Message). Leave (refusedBy a)) e in
-      let s : r ≡ roomAfter r l = left r o l n d in
+      let s : r ≡ roomAfter r l = left o l d in
       record {
         call-is =
             u ∙ ap₂ (λ (x y : ℕ). record { number = x; column = y }) (sym (ap (λ (x : Deed). done x (contents r) l .answer) d)) (sym (ap refusedAt e)) ∙ sym (call-is r o l);

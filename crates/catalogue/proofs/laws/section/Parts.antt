@@ -18,7 +18,7 @@ use Rattle.catalogue.proofs.laws.section.Wide.{Wide, Fits}
 use Rattle.catalogue.proofs.laws.section.Laid.{flat-length, count-length, laid-length, used-fits}
 use Rattle.catalogue.proofs.laws.section.RowMoves.{lay, insert-row, replace-row, remove-row, splice-length, rest-length}
 use Rattle.catalogue.proofs.laws.section.Seek.{put-missing, put-found, remove-found}
-use Rattle.catalogue.proofs.laws.section.Put.{put-wide, remove-wide, put-missing-length}
+use Rattle.catalogue.proofs.laws.section.Put.{put-wide, remove-wide}
 
 -- the section stands behind the front ones, with as many entries as xs and of their size
 pub record Stands (of : Section) (front : List Part) (w : ℕ) (xs : List (List ℕ)) : Type 0 where
@@ -126,31 +126,24 @@ module _ (S : ℕ) (front back : List Part) (w m : ℕ) (z : List ℕ) (xs : Lis
       let g = fits-with back w m front xs ys fits h k in
       omega (arith, laid-length (with S front back w m z ys) g, used-fits (with S front back w m z ys) g, capacity-with back w m front xs ys)
 
-  -- an entry is put where the search says
-  module _ (l : List ℕ) (hl : length l ≡ w) (few : length (put f l xs) ≤ m) where
-    pub put-section : (s : Seek) → Sought f (f l) xs s → putIn (roomOf S (with S front back w m z xs) ++ z) of used s l ≡ roomOf S (with S front back w m z (put f l xs)) ++ z
-    unfolding putIn
-    put-section (Missing i) s =
-        let p = put-missing f l xs i asc s in
-        let vs : Wide w (take i xs ++ l ∷ drop i xs) = rw (p .0) at (put-wide f w l xs hl ws) in
-        insert-part S front back w m z xs ws of at used us i l hl (p .1) vs (laid-within (take i xs ++ l ∷ drop i xs) vs (rw (p .0) at few))
-        ∙ ap (λ (ys : List (List ℕ)). roomOf S (with S front back w m z ys) ++ z) (sym (p .0))
-    put-section (Found i) s =
-        let p : put f l xs ≡ set xs i l = put-found f l xs i s in
-        replace-part S front back w m z xs ws of at used us i l hl (s .1) (rw p at (put-wide f w l xs hl ws)) ∙ ap (λ (ys : List (List ℕ)). roomOf S (with S front back w m z ys) ++ z) (sym p)
-
-    -- where it is new there is room for it
-    pub put-room : (s : Seek) → Sought f (f l) xs s → RoomFor s (used + length l) S
-    put-room (Found i) s = tt
-    put-room (Missing i) s =
-        let n : length (put f l xs) ≡ suc (length xs) = put-missing-length f l xs i asc s in
-        let k : w * length (put f l xs) ≡ w + w * length xs = ap (λ (x : ℕ). w * x) n ∙ omega arith in
-        omega (
-          arith,
-          laid-within (put f l xs) (put-wide f w l xs hl ws) few,
-          with-length S front back w m z (put f l xs) (put-wide f w l xs hl ws),
-          with-length S front back w m z xs ws,
-        )
+  -- an entry is put where the search says; where it is new there is room for it
+  pub put-section : (l : List ℕ) → length l ≡ w → length (put f l xs) ≤ m → (s : Seek) → Sought f (f l) xs s → {n : ℕ} → S ≤ n
+      → (putIn (roomOf S (with S front back w m z xs) ++ z) of used s l ≡ roomOf S (with S front back w m z (put f l xs)) ++ z) × RoomFor s (used + length l) n
+  unfolding putIn
+  put-section l hl few (Missing i) s long =
+      let p = put-missing f l xs i asc s in
+      let ys : List (List ℕ) = take i xs ++ l ∷ drop i xs in
+      let vs : Wide w ys = rw (p .0) at (put-wide f w l xs hl ws) in
+      let within : length (laid (with S front back w m z ys)) ≤ S = laid-within ys vs (rw (p .0) at few) in
+      let k : w * length ys ≡ w + w * length xs = ap (λ (x : ℕ). w * x) (splice-length i xs l) ∙ omega arith in (
+        insert-part S front back w m z xs ws of at used us i l hl (p .1) vs within ∙ ap (λ (ys : List (List ℕ)). roomOf S (with S front back w m z ys) ++ z) (sym (p .0)),
+        omega (arith, with-length S front back w m z ys vs, with-length S front back w m z xs ws),
+      )
+  put-section l hl few (Found i) s long =
+      let p : put f l xs ≡ set xs i l = put-found f l xs i s in (
+        replace-part S front back w m z xs ws of at used us i l hl (s .1) (rw p at (put-wide f w l xs hl ws)) ∙ ap (λ (ys : List (List ℕ)). roomOf S (with S front back w m z ys) ++ z) (sym p),
+        tt,
+      )
 
   -- the entry that was found is taken out
   pub cut-section : (k i : ℕ) → Sought f k xs (Found i) → takenOut (roomOf S (with S front back w m z xs) ++ z) of used i ≡ roomOf S (with S front back w m z (remove f k xs)) ++ z
