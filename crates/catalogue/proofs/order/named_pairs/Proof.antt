@@ -11,14 +11,14 @@ use Rattle.catalogue.proofs.laws.room.Encode.{room-size}
 use Rattle.catalogue.proofs.laws.room.Order.{PairsOf, Sections, many-held, held-end, held-within, many-deletions, deletions-end, deletions-within, held-asc, deletions-asc, deletions-mixed, held-mixed, deletions-barred, many-named, named-pairs}
 
 -- what the code has learnt: of the sections, of each test, and of the rest of the room
-sections : (c : tie.Else2) → Sections (c .before .before .before .before .before .before .before .args .s .now) (c .before .before .before .before .before .held-in .result) (c .before .before .deletions-in .result)
+sections : (c : tie.Else2) → let h = c .before .before .before .before .before in
+    Sections (h .before .before .args .s .now) (h .held-in .result) (c .before .before .deletions-in .result)
 sections c =
     let h = c .before .before .before .before .before in
     record { full = h .before .before .pre; held-is = h .held-in .ensures; deletions-are = c .before .before .deletions-in .ensures; few-held = c .before .before .before .if1 .left; few-deletions = c .if2 .left }
 
-counted : (c : tie.After-zeros)
-    → PairsOf (c .before .before .before .before .before .before .before .before .before .before .before .before .before .before .before .before .before .before .args .s .now)
-    (pick (c .zeros .result) (c .before .before .before .before .before .before .before .before .before .before .before .before .before .deletions-in .result .count + c .before .before .before .before .only-held .result) 513)
+counted : (c : tie.After-zeros) → let d = c .before .before .before .before .before .before .before .before .before .before .before .before .before in
+    PairsOf (d .before .before .before .before .before .args .s .now) (pick (c .zeros .result) (d .deletions-in .result .count + c .before .before .before .before .only-held .result) 513)
 counted c =
     let o = c .before .before .before .before in
     let d = o .before .before in

@@ -8,7 +8,7 @@ use borrow.Author.Tests.{lt-ltb, le-ltb}
 use lib.ListN.{length}
 use Rattle.catalogue.specs.Line.{version}
 use Rattle.catalogue.specs.Taking.{overHeld}
-use Rattle.catalogue.proofs.laws.section.Rows.{entry-fits, entry-part}
+use Rattle.catalogue.proofs.laws.section.Rows.{entry-end, entry-part}
 
 -- the held line's place, and that its bytes lie in the room
 held-place : (c : tie.After-seek) → c .seek .given .0 .0 < c .before .before .before .before .args .of .count
@@ -17,7 +17,7 @@ held-place c = rw (c .seek .given .1) at (c .before .before .before .before .pre
 held-end : (c : tie.After-entry-at) → c .entry-at .result + 80 ≤ length (c .before .before .before .before .before .before .before .before .before .args .room .now)
 held-end c =
     let d = c .before .before .before .before .before .before .before .before .before in
-    omega (arith, c .entry-at .ensures, entry-fits (d .args .of) (d .args .room .now) (d .pre .0) _ (held-place (c .before .before .before .before .before)), d .pre .1)
+    entry-end (d .args .of) (d .args .room .now) _ (held-place (c .before .before .before .before .before)) (d .pre .1) (c .entry-at .ensures) (d .pre .0)
 
 enum-told : tie.Need-enum-told
 enum-told c = search needs
@@ -59,8 +59,7 @@ returns-2 : tie.Need-returns-2
 unfolding overHeld version
 returns-2 c =
     let d = c .before .before .before .before .before .before .before .before .before .before .before .before in
-    let e = c .before .before .before .entry-at in
-    let b = entry-part (d .args .of) (d .args .room .now) _ (held-place (c .before .before .before .before .before .before .before .before)) 80 (d .pre .1) (e .result) (e .ensures) in
+    let b = entry-part (d .args .of) (d .args .room .now) _ (held-place (c .before .before .before .before .before .before .before .before)) (d .pre .1) (c .before .before .before .entry-at .ensures) in
     rw (c .before .before .before .before .before .before .before .before .seek .given .1, ← c .before .before .before .before .before .entry-byte .ensures, le-ltb _ _ (c .before .before .before .before .if1 .left), ← b, ← c .before .same .ensures, c .if2 .taken)
 
 returns-3 : tie.Need-returns-3
@@ -71,8 +70,7 @@ returns-4 : tie.Need-returns-4
 unfolding overHeld version
 returns-4 c =
     let d = c .before .before .before .before .before .before .before .before .before .before .before .before in
-    let e = c .before .before .before .entry-at in
-    let b = entry-part (d .args .of) (d .args .room .now) _ (held-place (c .before .before .before .before .before .before .before .before)) 80 (d .pre .1) (e .result) (e .ensures) in
+    let b = entry-part (d .args .of) (d .args .room .now) _ (held-place (c .before .before .before .before .before .before .before .before)) (d .pre .1) (c .before .before .before .entry-at .ensures) in
     rw (c .before .before .before .before .before .before .before .before .seek .given .1, ← c .before .before .before .before .before .entry-byte .ensures, le-ltb _ _ (c .before .before .before .before .if1 .left), ← b, ← c .before .same .ensures, c .if2 .left)
 
 pub over-held-spec : {M : Type 1} → statement M

@@ -9,11 +9,8 @@ use Rattle.catalogue.proofs.laws.room.Found.{long-enough}
 use Rattle.catalogue.proofs.laws.room.Carry.{Between, wipe-found, wipe-asks, between}
 
 -- the room without the held line
-rest : (c : tie.After-take-out)
-    → Between (c .before .before .before .before .before .before .before .before .before .before .before .args .room .now)
-    (c .before .before .before .before .before .before .before .before .before .before .before .args .line .now)
-    (c .before .before .before .before .before .before .before .before .before .before .before .args .v)
-    (c .before .before .before .before .before .before .before .before .before .before .before .args .f .in_deletions) (c .take-out .last .0)
+rest : (c : tie.After-take-out) → let a = c .before .before .before .before .before .before .before .before .before .before .before .args in
+    Between (a .room .now) (a .line .now) (a .v) (a .f .in_deletions) (c .take-out .last .0)
 rest c =
     let d = c .before .before .before .before .before .before .before .before .before .before .before in
     between (d .pre .0) (d .pre .1) (d .pre .2) (c .before .before .before .before .before .in-held .given .1) (c .before .before .end-of .ensures) (c .take-out .ensures)
