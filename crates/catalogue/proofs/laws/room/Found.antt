@@ -57,21 +57,22 @@ module _ (r : List ℕ) (o : Ordered r) where
   pub long-enough : (2 ≤ length r) × (endOf (heldIn r) + 2 ≤ length r)
   long-enough = (omega (arith, room-size, o .long), omega (arith, used-fits r o, o .long))
 
-  -- both sections can be searched
-  pub held-open : (s : Section) → s ≡ heldIn r → Inside s r × AscFrom (entryKey s) 0 (entriesOf s r)
-  held-open s e = subst (λ (x : Section). Inside x r × AscFrom (entryKey x) 0 (entriesOf x r)) (sym e) (held-inside r o, held-asc r o)
+  -- both sections can be searched, and what a search finds is found in the catalogue
+  module _ {s : Section} (e : s ≡ heldIn r) where
+    pub held-open : Inside s r × AscFrom (entryKey s) 0 (entriesOf s r)
+    held-open = rw e (held-inside r o, held-asc r o)
 
-  pub deletion-open : (s : Section) → s ≡ deletionsIn r → Inside s r × AscFrom (entryKey s) 0 (entriesOf s r)
-  deletion-open s e = subst (λ (x : Section). Inside x r × AscFrom (entryKey x) 0 (entriesOf x r)) (sym e) (deletion-inside r o, deletion-asc r o)
+    pub held-sought : {k j : ℕ} → k ≡ j → (x : Seek) → Sought (entryKey s) k (entriesOf s r) x → Sought key j (contents r .held) x
+    held-sought {k} {j} f x h =
+        sought-as (entryKey s) key k j (entriesOf s r) (contents r .held) x (ap entryKey e ∙ held-key r) f (ap (λ (y : Section). entriesOf y r) e ∙ held-entries r o) h
 
-  -- and what a search finds is found in the catalogue
-  pub held-sought : (s : Section) (k j : ℕ) (x : Seek) → s ≡ heldIn r → k ≡ j → Sought (entryKey s) k (entriesOf s r) x → Sought key j (contents r .held) x
-  held-sought s k j x e f h =
-      sought-as (entryKey s) key k j (entriesOf s r) (contents r .held) x (ap entryKey e ∙ held-key r) f (ap (λ (y : Section). entriesOf y r) e ∙ held-entries r o) h
+  module _ {s : Section} (e : s ≡ deletionsIn r) where
+    pub deletion-open : Inside s r × AscFrom (entryKey s) 0 (entriesOf s r)
+    deletion-open = rw e (deletion-inside r o, deletion-asc r o)
 
-  pub deletion-sought : (s : Section) (k j : ℕ) (x : Seek) → s ≡ deletionsIn r → k ≡ j → Sought (entryKey s) k (entriesOf s r) x → Sought deletionKey j (contents r .deletions) x
-  deletion-sought s k j x e f h =
-      sought-as (entryKey s) deletionKey k j (entriesOf s r) (contents r .deletions) x (ap entryKey e ∙ deletion-key r) f (ap (λ (y : Section). entriesOf y r) e ∙ deletion-entries r o) h
+    pub deletion-sought : {k j : ℕ} → k ≡ j → (x : Seek) → Sought (entryKey s) k (entriesOf s r) x → Sought deletionKey j (contents r .deletions) x
+    deletion-sought {k} {j} f x h =
+        sought-as (entryKey s) deletionKey k j (entriesOf s r) (contents r .deletions) x (ap entryKey e ∙ deletion-key r) f (ap (λ (y : Section). entriesOf y r) e ∙ deletion-entries r o) h
 
   module _ (l : List ℕ) (f : Findings) (K : Known r l f) where
     held-rows : entriesOf (f .held) r ≡ contents r .held
@@ -89,8 +90,8 @@ module _ (r : List ℕ) (o : Ordered r) where
         let n : length (contents r .held) ≡ f .held .count = sym (ap length held-rows) ∙ entries-length (f .held) r in
         let m : length (contents r .deletions) ≡ f .deletions .count = sym (ap length deletion-rows) ∙ entries-length (f .deletions) r in
         record {
-          held-inside = held-open (f .held) (K .held-is) .0;
-          deletions-inside = deletion-open (f .deletions) (K .deletions-are) .0;
+          held-inside = held-open (K .held-is) .0;
+          deletions-inside = deletion-open (K .deletions-are) .0;
           held-size = ap (λ (s : Section). s .size) (K .held-is);
           deletion-size = ap (λ (s : Section). s .size) (K .deletions-are);
           held-place = subst (placeOf (f .in_held)) n (sought-place key (key l) (contents r .held) (f .in_held) (K .in-held));

@@ -193,7 +193,7 @@ module _ (r : List ℕ) (long : 46596 ≤ length r) where
   pub front-length : length (take (46596 - 0) (drop 0 r)) ≡ roomSize
   front-length = ap length front-is ∙ length-take-le roomSize r (omega (arith, room-size))
 
-  module _ (n : ℕ) (counted : PairsOf (take (46596 - 0) (drop 0 r)) n) where
+  module _ {n : ℕ} (counted : PairsOf (take (46596 - 0) (drop 0 r)) n) where
     front-counted : (b : Bool) → inOrder (take roomSize r) ≡ b → n ≡ pick b (named (contents (take roomSize r))) 513
     front-counted b e = subst (λ (s : List ℕ). PairsOf s n) front-is counted ∙ ap (λ (t : Bool). pick t (named (contents (take roomSize r))) 513) e
 

@@ -33,15 +33,15 @@ returns-2 : tie.Need-returns-2
 returns-2 c =
     let a = c .before .before .before .before .before .before .before .args in
     let h = c .before .before .before .before .if1 .left in
-    let e = front-disordered (a .room .now) h (c .before .named-pairs .result) (c .before .named-pairs .ensures) (c .if2 .taken) in
+    let e = front-disordered (a .room .now) h (c .before .named-pairs .ensures) (c .if2 .taken) in
     (sym (call-disorder (a .room .now) (a .line .now) (omega (arith, room-size)) e), sym (room-disorder (a .room .now) (a .line .now) (omega (arith, room-size)) e))
 
 take-ordered-requires : tie.Need-take-ordered-requires
 take-ordered-requires c κs =
-    let a = c .before .before .before .before .before .before .before .before .args in
+    let r = c .before .before .before .before .before .before .before .before .args .room .now in
     let h = c .before .before .before .before .before .if1 .left in
-    let n = c .before .before .named-pairs in
-    (front-ordered (a .room .now) h (n .result) (n .ensures) (c .before .if2 .left), front-named (a .room .now) h (n .result) (n .ensures) (c .before .if2 .left))
+    let n = c .before .before .named-pairs .ensures in
+    (front-ordered r h n (c .before .if2 .left), front-named r h n (c .before .if2 .left))
 
 same-length-2 : tie.Need-same-length-2
 same-length-2 c = search needs
