@@ -1,6 +1,6 @@
 -- An entry put into one section of many, or taken out of it: the room of the sections with that one changed.
 use Prim.Native.Nat.{ℕ, suc, _+_, _*_, _-_, _≤_, _<_}
-use mathlib.Core.Path.{_≡_, refl, sym, _∙_, ap, ap₂}
+use mathlib.Core.Path.{_≡_, refl, _∙_, ap, ap₂}
 use mathlib.Core.List.{List, [], _∷_, _++_, append-assoc}
 use native.Mathlib.Omega.{arith}
 use lib.ListN.{length, take, drop, set, replicate, length-append, length-set}
@@ -11,7 +11,7 @@ use Rattle.catalogue.specs.declared.section.Seek.the-variants.{Found, Mi
 use Rattle.catalogue.specs.Assoc.{put, remove, AscFrom}
 use Rattle.catalogue.specs.Section.{Part, part, count, flat, laid, capacity}
 use Rattle.catalogue.specs.Room.{roomOf}
-use Rattle.catalogue.specs.Splice.{spliced, cutOut, counted}
+use Rattle.catalogue.specs.Splice.{spliced, counted}
 use Rattle.catalogue.specs.Entries.{Sought, RoomFor}
 use Rattle.catalogue.specs.Moves.{entryAt, putIn, takenOut}
 use Rattle.catalogue.proofs.laws.section.Wide.{Wide, Fits}

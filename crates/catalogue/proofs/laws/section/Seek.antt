@@ -1,11 +1,11 @@
 -- What a search says of the list: found or not, and where an entry is put or removed.
-use Prim.Native.Nat.{ℕ, suc, _+_, _≤_, _<_}
-use mathlib.Core.Path.{_≡_, sym, _∙_, ap, subst}
+use Prim.Native.Nat.{ℕ, suc, _+_, _≤_}
+use mathlib.Core.Path.{_≡_}
 use mathlib.Core.List.{List, [], _∷_, _++_}
 use mathlib.Core.Option.{none, some}
 use native.Mathlib.Omega.{arith}
 use lib.ListN.{length, take, drop, getD, set}
-use Rattle.catalogue.specs.Assoc.{find, put, remove, below, AscFrom}
+use Rattle.catalogue.specs.Assoc.{find, put, remove, AscFrom}
 use Rattle.catalogue.specs.declared.section.Seek.{Seek}
 use Rattle.catalogue.specs.declared.section.Seek.the-variants.{Found, Missing}
 use Rattle.catalogue.specs.Entries.{Sought, entryOf}

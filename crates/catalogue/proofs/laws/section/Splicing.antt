@@ -1,11 +1,12 @@
--- One byte moved up.
+-- Bytes moved up, down, and written, one by one.
 use Prim.Native.Nat.{ℕ, suc, _+_, _-_, _≤_, _<_}
-use mathlib.Core.Path.{_≡_, sym, _∙_, ap, subst}
+use mathlib.Core.Path.{_≡_, refl, sym, _∙_, ap, subst}
 use mathlib.Core.List.{List, _∷_, _++_, append-assoc}
+use native.Mathlib.Numerals.{add-one}
 use native.Mathlib.Omega.{arith}
-use lib.ListN.{length, take, drop, getD, set, length-drop, take-append-drop, List·getD-append, length-replicate, getD-replicate}
-use lib.Seq.{paste, paste-suc, drop-paste, getD-drop, take-append-le, take-take, take-length, drop-at, take-suc, drop-cons, set-at, getD-take, length-take-le}
-use Rattle.catalogue.specs.Splice.{opened, spliced, zeros}
+use lib.ListN.{length, take, drop, getD, set, length-set, length-drop, take-append-drop, List·getD-append}
+use lib.Seq.{paste, paste-zero, paste-suc, drop-paste, getD-drop, take-append-le, take-take, take-length, drop-at, take-suc, drop-cons, set-at, getD-take, length-take-le}
+use Rattle.catalogue.specs.Splice.{opened, spliced}
 
 module _ (r : List ℕ) (at used w : ℕ) (fits : used + w ≤ length r) where
   pub opened-start : r ≡ opened r at used w used
@@ -58,23 +59,31 @@ filled r s at used h k =
     let e2 : drop (at + length s) (take (at + length s) r ++ T) ≡ T = drop-at (take (at + length s) r) T (at + length s) n in
     rw (e1, e2, take-length s) (append-assoc (take at r) s T)
 
--- one byte moved down
-pub closed-turn : (r s : List ℕ) (at w n j : ℕ) → at + w + n ≤ length r → j < n → s ≡ paste r at (drop (at + w) r) j
-    → set s (at + j) (getD s (at + w + j) 0) ≡ paste r at (drop (at + w) r) (suc j)
-closed-turn r s at w n j fits h e =
-    let l : length (drop (at + w) r) ≡ length r - (at + w) = length-drop (at + w) r in
-    let k : at + w + j ≡ at + j + w = omega arith in
-    let b : getD s (at + w + j) 0 ≡ getD (drop (at + w) r) j 0 =
-    ap (λ (i : ℕ). getD s i 0) k ∙ sym (getD-drop (at + j) s w 0)
-    ∙ ap (λ (t : List ℕ). getD (drop (at + j) t) w 0) e
-    ∙ ap (λ (t : List ℕ). getD t w 0) (drop-paste r at (drop (at + w) r) j (omega arith) (omega arith))
-    ∙ getD-drop (at + j) r w 0 ∙ ap (λ (i : ℕ). getD r i 0) (sym k) ∙ sym (getD-drop (at + w) r j 0) in
-    ap (λ (v : ℕ). set s (at + j) v) b ∙ ap (λ (t : List ℕ). set t (at + j) (getD (drop (at + w) r) j 0)) e
-    ∙ paste-suc r at (drop (at + w) r) j 0 (omega arith) (omega arith)
+-- ---- bytes written one by one
 
--- one byte cleared
-pub cleared-turn : (r s : List ℕ) (at n j : ℕ) → at + n ≤ length r → j < n → s ≡ paste r at (zeros n) j → set s (at + j) 0 ≡ paste r at (zeros n) (suc j)
-cleared-turn r s at n j fits h e =
-    let l : length (zeros n) ≡ n = length-replicate n 0 in
-    ap (λ (v : ℕ). set s (at + j) v) (sym (getD-replicate n j 0 0 h)) ∙ ap (λ (t : List ℕ). set t (at + j) (getD (zeros n) j 0)) e
-    ∙ paste-suc r at (zeros n) j 0 (omega arith) (omega arith)
+-- the first j of n bytes of src are written from a place on
+pub record Pasting (r src : List ℕ) (at n : ℕ) (s : List ℕ) (j : ℕ) : Type 0 where
+  pub within : j ≤ n
+  pub pasted : s ≡ paste r at src j
+  pub as-long : length s ≡ length r
+
+pub pasting-starts : (r src : List ℕ) (at n : ℕ) → Pasting r src at n r 0
+pasting-starts r src at n = record { within = omega arith; pasted = paste-zero r at src; as-long = refl }
+
+module _ {r src : List ℕ} {at n : ℕ} {s : List ℕ} {j : ℕ} (P : Pasting r src at n s j) where
+  pub pasting-turns : at + n ≤ length r → n ≤ length src → j < n → {v : ℕ} → v ≡ getD src j 0 → Pasting r src at n (set s (at + j) v) (j + 1)
+  pasting-turns h k l e = record {
+    within = omega arith;
+    pasted = rw (e, P .pasted, add-one) (paste-suc r at src j 0 (omega arith) (omega arith));
+    as-long = simp length-set (P .as-long);
+  }
+
+  pub pasting-ends : n ≤ j → s ≡ paste r at src n
+  pasting-ends h = let e : n ≡ j = omega (arith, P .within) in rw e (P .pasted)
+
+-- a byte that moves down is not written over yet
+pub byte-ahead : {r s : List ℕ} {at n j : ℕ} (w : ℕ) → at + w + n ≤ length r → j < n → Pasting r (drop (at + w) r) at n s j → getD s (at + w + j) 0 ≡ getD (drop (at + w) r) j 0
+byte-ahead {r} {s} {at} {n} {j} w fits h P =
+    let k : at + w + j ≡ at + j + w = omega arith in
+    let d : drop (at + j) s ≡ drop (at + j) r = ap (drop (at + j)) (P .pasted) ∙ drop-paste r at (drop (at + w) r) j (omega arith) (simp length-drop (omega arith)) in
+    rw (getD-drop (at + w) r j 0, k, ← getD-drop (at + j) s w 0, d) (getD-drop (at + j) r w 0)
