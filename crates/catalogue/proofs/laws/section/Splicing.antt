@@ -1,7 +1,7 @@
 -- Bytes moved up, down, and written, one by one.
 use Prim.Native.Nat.{ℕ, suc, _+_, _-_, _≤_, _<_}
-use mathlib.Core.Path.{_≡_, refl, sym, _∙_, ap, subst}
-use mathlib.Core.List.{List, _∷_, _++_, append-assoc}
+use mathlib.Core.Path.{_≡_, refl, sym, _∙_, ap}
+use mathlib.Core.List.{List, _++_, append-assoc}
 use native.Mathlib.Numerals.{add-one}
 use native.Mathlib.Omega.{arith}
 use lib.ListN.{length, take, drop, getD, set, length-set, length-drop, take-append-drop, List·getD-append}
@@ -21,33 +21,16 @@ module _ (r : List ℕ) (at used w : ℕ) (fits : used + w ≤ length r) where
       let n : length (take (suc i + w) r) ≡ suc i + w = length-take-le (suc i + w) r (omega arith) in
       List·getD-append (take (suc i + w) r) _ 0 i (omega arith) ∙ getD-take (suc i + w) r i 0 (omega arith)
 
-  tail-at : ℕ → List ℕ
-  tail-at i = take (used - i) (drop i r) ++ drop (used + w) r
-
-  tail-cons : (i : ℕ) → suc i ≤ used → tail-at i ≡ getD r i 0 ∷ tail-at (suc i)
-  unfolding tail-at
-  tail-cons i h =
-      let e : used - i ≡ suc (used - suc i) = omega arith in
-      rw (e, drop-cons r i 0 (omega arith))
-
-  opened-split : (i : ℕ) → suc i ≤ used → opened r at used w (suc i) ≡ take (i + w) r ++ getD r (i + w) 0 ∷ tail-at (suc i)
-  unfolding opened tail-at
-  opened-split i h =
-      let e : suc i + w ≡ suc (i + w) = omega arith in
-      rw (e, take-suc r (i + w) 0 (omega arith)) (append-assoc (take (i + w) r) _ _)
-
   opened-step : (i : ℕ) → suc i ≤ used → set (opened r at used w (suc i)) (i + w) (getD (opened r at used w (suc i)) i 0) ≡ opened r at used w i
-  unfolding opened tail-at
+  unfolding opened
   opened-step i h =
-      ap (λ (a : ℕ). set (opened r at used w (suc i)) (i + w) a) (opened-byte i h)
-      ∙ ap (λ (l : List ℕ). set l (i + w) (getD r i 0)) (opened-split i h)
-      ∙ set-at (take (i + w) r) (getD r (i + w) 0) (tail-at (suc i)) (getD r i 0) (i + w) (length-take-le (i + w) r (omega arith))
-      ∙ ap (λ (l : List ℕ). take (i + w) r ++ l) (sym (tail-cons i h))
+      let T : List ℕ = take (used - suc i) (drop (suc i) r) ++ drop (used + w) r in
+      let e : used - i ≡ suc (used - suc i) = omega arith in
+      let f : suc i + w ≡ suc (i + w) = omega arith in
+      rw (opened-byte i h, f, take-suc r (i + w) 0 (omega arith), append-assoc, set-at (take (i + w) r) (getD r (i + w) 0) T (getD r i 0) (i + w) (length-take-le (i + w) r (omega arith)), e, drop-cons r i 0 (omega arith))
 
   pub opened-back : (i : ℕ) → 0 < i → i ≤ used → set (opened r at used w i) (i - 1 + w) (getD (opened r at used w i) (i - 1) 0) ≡ opened r at used w (i - 1)
-  opened-back i p h =
-      let e : suc (i - 1) ≡ i = omega arith in
-      subst (λ (k : ℕ). set (opened r at used w k) (i - 1 + w) (getD (opened r at used w k) (i - 1) 0) ≡ opened r at used w (i - 1)) e (opened-step (i - 1) (omega arith))
+  opened-back i p h = let e : suc (i - 1) ≡ i = omega arith in rw e at (opened-step (i - 1) (omega arith))
 
 -- a gap, filled
 pub filled : (r s : List ℕ) (at used : ℕ) → at ≤ used → used + length s ≤ length r → paste (opened r at used (length s) at) at s (length s) ≡ spliced r at used s
