@@ -17,7 +17,7 @@ use Rattle.catalogue.specs.declared.take.Deed.the-variants.{Leave, Hold,
 use Rattle.catalogue.specs.declared.take.Notice.{Notice}
 use Rattle.catalogue.specs.declared.take.Notice.the-variants.{Event, Delete, Blank}
 use Rattle.catalogue.specs.declared.take.Findings.{Findings}
-use Rattle.catalogue.specs.declared.take.Taken.{Taken}
+use Rattle.catalogue.specs.declared.take.Receipt.{Receipt}
 use Rattle.catalogue.specs.Answers.{removed, noted}
 use Rattle.catalogue.specs.Assoc.{put}
 use Rattle.catalogue.specs.Line.{Kind, event, delete, blank, kind, key, deletion, deletionKey}
@@ -89,7 +89,7 @@ namedAfter (Note v) h d n = oneMore h d n
 namedAfter (Wipe v) h d n = oneMore h d n
 
 -- a line was taken into a room in order: the call's answer, the room after it, which stays in order, and the pairs named then
-pub record Took (r l after : List ℕ) (t : Taken) : Type 0 where
+pub record Took (r l after : List ℕ) (t : Receipt) : Type 0 where
   pub call-is : t .call ≡ callOf r l
   pub room-is : after ≡ roomAfter r l
   pub ordered : Ordered after

@@ -172,6 +172,6 @@ pub fn take_line(room: &mut [u8], line: &[u8]) -> Call
             column: 0,
         };
     }
-    let taken = take_ordered(room, named, line);
-    taken.call
+    let receipt = take_ordered(room, named, line);
+    receipt.call
 }

@@ -56,7 +56,7 @@ pub struct Findings {
 }
 
 // What a line taken into a room in order answers, and how many pairs are named after it.
-pub struct Taken {
+pub struct Receipt {
     pub call: Call,
     pub named: usize,
 }
@@ -352,7 +352,7 @@ fn named_after(deed: Deed, in_held: Seek, in_deletions: Seek, named: usize) -> u
 }
 
 // An acceptable line, taken into a room in order that names so many pairs.
-fn take_notice(room: &mut [u8], named: usize, notice: Notice, line: &[u8]) -> Taken
+fn take_notice(room: &mut [u8], named: usize, notice: Notice, line: &[u8]) -> Receipt
     requires { ⌜ Ordered (now room) × (named ≡ namedOf (contents (now room))) × (kind (now line) ≡ noticeKind notice) ⌝ }
     ensures { λ r. ⌜ Took (now (room .entry)) (now (line .entry)) (now (room .exit)) r ⌝ }
 {
@@ -361,7 +361,7 @@ fn take_notice(room: &mut [u8], named: usize, notice: Notice, line: &[u8]) -> Ta
     let in_deletions = f.in_deletions;
     let deed = limited(named, in_deletions, in_held, decide(room, f, notice, line));
     carry_out(room, f, deed, line);
-    Taken {
+    Receipt {
         call: Call {
             number: answer_of(deed),
             column: 0,
@@ -371,14 +371,14 @@ fn take_notice(room: &mut [u8], named: usize, notice: Notice, line: &[u8]) -> Ta
 }
 
 // A line, taken into a room in order, which stays in order. No whole-room check is made; the pairs named are handed on.
-pub fn take_ordered(room: &mut [u8], named: usize, line: &[u8]) -> Taken
+pub fn take_ordered(room: &mut [u8], named: usize, line: &[u8]) -> Receipt
     requires { ⌜ Ordered (now room) × (named ≡ namedOf (contents (now room))) ⌝ }
     ensures { λ r. ⌜ Took (now (room .entry)) (now (line .entry)) (now (room .exit)) r ⌝ }
 {
     let got = read_line(line);
     let read = got.read;
     let Read::There(kind, _) = read else {
-        return Taken {
+        return Receipt {
             call: refused(read),
             named,
         };

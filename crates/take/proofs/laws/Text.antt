@@ -110,13 +110,13 @@ joined x y z = simp append-assoc
 -- one entry, and the newline after it
 module _ (of : Section) (s : List ℕ) (f : Inside of s) (i : ℕ) (h : i < of .count) (from : ℕ) (at : from ≡ of .at + 2 + of .size * i) where
   pub entry-size : length (take (from + of .size - from) (drop from s)) ≡ of .size
-  entry-size = ap length (entry-part of s i h (of .size) refl from at) ∙ entry-length of s f i h
+  entry-size = ap length (entry-part of s i h refl at) ∙ entry-length of s f i h
 
   pub entry-turn : {a b c : List ℕ} {to m r : ℕ} (x : List ℕ) → Put a to (take (from + of .size - from) (drop from s)) b m → Put b m (10 ∷ []) c r
       → take to a ++ rowLines (drop i (entriesOf of s)) ≡ x → (take r c ++ rowLines (drop (i + 1) (entriesOf of s)) ≡ x) × (r ≡ to + of .size + 1)
   entry-turn {a} {b} {c} {to} {m} {r} x p q e = (
     ap (λ (y : List ℕ). y ++ rowLines (drop (i + 1) (entriesOf of s)))
-        (put-more p q .bytes ∙ ap (λ (y : List ℕ). take to a ++ (y ++ (10 ∷ []))) (entry-part of s i h (of .size) refl from at))
+        (put-more p q .bytes ∙ ap (λ (y : List ℕ). take to a ++ (y ++ (10 ∷ []))) (entry-part of s i h refl at))
         ∙ joined (take to a) (getD (entriesOf of s) i []) (rowLines (drop (i + 1) (entriesOf of s)))
         ∙ ap (λ (y : List ℕ). take to a ++ y) (sym (lines-next (entriesOf of s) i (omega (arith, entries-length of s)))) ∙ e,
     omega (arith, p .place, q .place, entry-size),

@@ -6,7 +6,8 @@ use mathlib.Core.Option.{none, some}
 use native.Mathlib.Omega.{arith}
 use borrow.Author.Tests.{lt-ltb, le-ltb, eq-eqb, ne-eqb}
 use Rattle.catalogue.specs.Assoc.{find, put, remove, AscFrom}
-use Rattle.catalogue.proofs.laws.assoc.Tri.{less, same, more, tri, eq, ne, eq?}
+use Rattle.formats.proofs.laws.Tri.{less, same, more, tri}
+use Rattle.catalogue.proofs.laws.assoc.Tri.{eq, ne, eq?}
 
 module _ {E : Type 0} (key : E → ℕ) where
   pub find-here : (x : E) (xs : List E) (k : ℕ) → key x ≡ k → find key k (x ∷ xs) ≡ some x

@@ -6,7 +6,7 @@ use mathlib.Core.Option.{none, some}
 use native.Mathlib.Omega.{arith}
 use lib.ListN.{length, take, drop, getD, set}
 use Rattle.catalogue.specs.Assoc.{find, put, remove, below, AscFrom}
-use Rattle.catalogue.proofs.laws.assoc.Tri.{less, same, more, tri}
+use Rattle.formats.proofs.laws.Tri.{less, same, more, tri}
 use Rattle.catalogue.proofs.laws.assoc.Assoc.{find-here, find-there, find-below, put-same, put-more, remove-here, remove-there}
 use Rattle.catalogue.proofs.laws.assoc.Below.{below-less, below-not}
 
@@ -18,14 +18,10 @@ module _ {E : Type 0} (key : E → ℕ) (d : E) where
   place-none (x ∷ xs) b k s h =
       elim (tri (key x) k) [
         | less p ↦
-            let n : key x ≡ k → ⊥ = λ (q : key x ≡ k). omega arith in
-            let e : below key k (x ∷ xs) ≡ suc (below key k xs) = below-less key x xs k p in
-            find-there key x xs k n
-            ∙ place-none xs (suc (key x)) k (s .1) (λ (l : below key k xs < length xs) (q : key (getD xs (below key k xs) d) ≡ k).
-            h (omega (arith, e)) (ap (λ (i : ℕ). key (getD (x ∷ xs) i d)) e ∙ q))
-        | same p ↦
-            let e : below key k (x ∷ xs) ≡ 0 = below-not key x xs k (omega arith) in
-            absurd (h (omega (arith, e)) (ap (λ (i : ℕ). key (getD (x ∷ xs) i d)) e ∙ p))
+            let g = rw (below-less key x xs k p) at h in
+            find-there key x xs k (λ (q : key x ≡ k). omega arith)
+            ∙ place-none xs (suc (key x)) k (s .1) (λ (l : below key k xs < length xs) (q : key (getD xs (below key k xs) d) ≡ k). g (omega arith) q)
+        | same p ↦ let g = rw (below-not key x xs k (omega arith)) at h in absurd (g (omega arith) p)
         | more p ↦ find-below key (x ∷ xs) (key x) k (omega arith, s .1) p
       ]
 
@@ -36,15 +32,10 @@ module _ {E : Type 0} (key : E → ℕ) (d : E) where
   place-some (x ∷ xs) k l q =
       elim (tri (key x) k) [
         | less p ↦
-            let n : key x ≡ k → ⊥ = λ (r : key x ≡ k). omega arith in
             let e : below key k (x ∷ xs) ≡ suc (below key k xs) = below-less key x xs k p in
-            find-there key x xs k n ∙ place-some xs k (omega (arith, e)) (sym (ap (λ (i : ℕ). key (getD (x ∷ xs) i d)) e) ∙ q) ∙ sym (ap (λ (i : ℕ). some (getD (x ∷ xs) i d)) e)
-        | same p ↦
-            let e : below key k (x ∷ xs) ≡ 0 = below-not key x xs k (omega arith) in
-            find-here key x xs k p ∙ sym (ap (λ (i : ℕ). some (getD (x ∷ xs) i d)) e)
-        | more p ↦
-            let e : below key k (x ∷ xs) ≡ 0 = below-not key x xs k (omega arith) in
-            absurd (omega (arith, sym (ap (λ (i : ℕ). key (getD (x ∷ xs) i d)) e) ∙ q))
+            rw (find-there key x xs k (λ (r : key x ≡ k). omega arith), e) (place-some xs k (omega arith) (rw e at q))
+        | same p ↦ rw (find-here key x xs k p, below-not key x xs k (omega arith))
+        | more p ↦ absurd (omega (arith, rw (below-not key x xs k (omega arith)) at q))
       ]
 
   -- replaced in its place
@@ -55,11 +46,9 @@ module _ {E : Type 0} (key : E → ℕ) (d : E) where
       elim (tri (key x) (key e)) [
         | less p ↦
             let i : below key (key e) (x ∷ xs) ≡ suc (below key (key e) xs) = below-less key x xs (key e) p in
-            put-more key e x xs p ∙ ap (λ (t : List E). x ∷ t) (put-set e xs (omega (arith, i)) (sym (ap (λ (j : ℕ). key (getD (x ∷ xs) j d)) i) ∙ q)) ∙ sym (ap (λ (j : ℕ). set (x ∷ xs) j e) i)
-        | same p ↦ put-same key e x xs (sym p) ∙ sym (ap (λ (j : ℕ). set (x ∷ xs) j e) (below-not key x xs (key e) (omega arith)))
-        | more p ↦
-            let i : below key (key e) (x ∷ xs) ≡ 0 = below-not key x xs (key e) (omega arith) in
-            absurd (omega (arith, sym (ap (λ (j : ℕ). key (getD (x ∷ xs) j d)) i) ∙ q))
+            rw (put-more key e x xs p, i) (ap (λ (t : List E). x ∷ t) (put-set e xs (omega arith) (rw i at q)))
+        | same p ↦ rw (put-same key e x xs (sym p), below-not key x xs (key e) (omega arith))
+        | more p ↦ absurd (omega (arith, rw (below-not key x xs (key e) (omega arith)) at q))
       ]
 
   pub remove-none : (xs : List E) (b k : ℕ) → AscFrom key b xs → k < b → remove key k xs ≡ xs
@@ -76,13 +65,7 @@ module _ {E : Type 0} (key : E → ℕ) (d : E) where
       elim (tri (key x) k) [
         | less p ↦
             let i : below key k (x ∷ xs) ≡ suc (below key k xs) = below-less key x xs k p in
-            remove-there key x xs k (λ (r : key x ≡ k). omega arith)
-            ∙ ap (λ (t : List E). x ∷ t) (remove-cut xs (suc (key x)) k (s .1) (omega (arith, i)) (sym (ap (λ (j : ℕ). key (getD (x ∷ xs) j d)) i) ∙ q))
-            ∙ sym (ap (λ (j : ℕ). take j (x ∷ xs) ++ drop (suc j) (x ∷ xs)) i)
-        | same p ↦
-            remove-here key x xs k p ∙ remove-none xs (suc (key x)) k (s .1) (omega arith)
-            ∙ sym (ap (λ (j : ℕ). take j (x ∷ xs) ++ drop (suc j) (x ∷ xs)) (below-not key x xs k (omega arith)))
-        | more p ↦
-            let i : below key k (x ∷ xs) ≡ 0 = below-not key x xs k (omega arith) in
-            absurd (omega (arith, sym (ap (λ (j : ℕ). key (getD (x ∷ xs) j d)) i) ∙ q))
+            rw (remove-there key x xs k (λ (r : key x ≡ k). omega arith), i) (ap (λ (t : List E). x ∷ t) (remove-cut xs (suc (key x)) k (s .1) (omega arith) (rw i at q)))
+        | same p ↦ rw (remove-here key x xs k p, below-not key x xs k (omega arith)) (remove-none xs (suc (key x)) k (s .1) (omega arith))
+        | more p ↦ absurd (omega (arith, rw (below-not key x xs k (omega arith)) at q))
       ]

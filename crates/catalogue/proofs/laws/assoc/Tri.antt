@@ -1,44 +1,19 @@
--- Two numbers compared: what holds, for a case split.
+-- Two numbers compared by one test, for a case split; formats' Tri has all three cases.
 use Prim.Native.Nat.{ℕ, _≤_, _<_}
-use mathlib.Core.Path.{_≡_, refl}
-use mathlib.Core.Bool.{Bool, true, false}
+use mathlib.Core.Path.{_≡_}
 use native.Mathlib.Omega.{arith}
-use lib.Dec.{ltb}
-use borrow.Author.Tests.{ltb-true, ltb-false}
-
-pub data Tri (a b : ℕ) : Type 0 where
-  less : a < b → Tri a b
-  same : a ≡ b → Tri a b
-  more : b < a → Tri a b
-
-pub tri : (a b : ℕ) → Tri a b
-tri a b = go (ltb a b) refl (ltb b a) refl
-  where
-    go : (s : Bool) → ltb a b ≡ s → (t : Bool) → ltb b a ≡ t → Tri a b
-    go true p t q = less (ltb-true a b p)
-    go false p true q = more (ltb-true b a q)
-    go false p false q = same (omega (arith, ltb-false a b p, ltb-false b a q))
+use Rattle.formats.proofs.laws.Tri.{less, same, more, tri}
 
 pub data Le? (a b : ℕ) : Type 0 where
   le : a ≤ b → Le? a b
   gt : b < a → Le? a b
 
 pub le? : (a b : ℕ) → Le? a b
-le? a b = go (tri a b)
-  where
-    go : Tri a b → Le? a b
-    go (less h) = le (omega arith)
-    go (same h) = le (omega arith)
-    go (more h) = gt h
+le? a b = elim (tri a b) [ less h ↦ le (omega arith) | same h ↦ le (omega arith) | more h ↦ gt h ]
 
 pub data Eq? (a b : ℕ) : Type 0 where
   eq : a ≡ b → Eq? a b
   ne : (a ≡ b → ⊥) → Eq? a b
 
 pub eq? : (a b : ℕ) → Eq? a b
-eq? a b = go (tri a b)
-  where
-    go : Tri a b → Eq? a b
-    go (less h) = ne (λ (e : a ≡ b). omega arith)
-    go (same h) = eq h
-    go (more h) = ne (λ (e : a ≡ b). omega arith)
+eq? a b = elim (tri a b) [ less h ↦ ne (λ (e : a ≡ b). omega arith) | same h ↦ eq h | more h ↦ ne (λ (e : a ≡ b). omega arith) ]

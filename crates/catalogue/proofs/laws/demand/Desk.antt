@@ -9,7 +9,7 @@ use native.Mathlib.Numerals.{add-one}
 use lib.Dec.{ltb, leb}
 use lib.ListN.{length, take, drop, getD, length-append}
 use lib.Seq.{take-at, drop-at, drop-cons, drop-length}
-use borrow.Author.Tests.{ltb-false, leb-true, lt-ltb, le-ltb, lt-leb, le-leb}
+use borrow.Author.Tests.{ltb-false, leb-true, le-ltb, le-leb}
 use Rattle.columns.specs.Answer.{pick}
 use Rattle.catalogue.specs.declared.Call.{Call}
 use Rattle.catalogue.specs.declared.desk.Tally.{Tally}
@@ -21,7 +21,7 @@ use Rattle.catalogue.specs.Demand.{zeroed}
 use Rattle.catalogue.specs.Desk.{endIn, linesFrom, linesAt, endsFrom, refusals, Fed, Desks}
 use Rattle.catalogue.proofs.laws.assoc.Tests.{pick-by}
 use Rattle.catalogue.proofs.laws.room.Untouched.{room-idle, call-idle}
-use Rattle.catalogue.proofs.laws.demand.Feed.{feed-none, feed-more, feed-idle}
+use Rattle.catalogue.proofs.laws.demand.Feed.{feed-idle}
 use Rattle.catalogue.proofs.laws.demand.Demand.{demand-3}
 
 -- ---- an end
@@ -35,31 +35,12 @@ module _ (n start end : ℕ) where
       (λ t.
       pick-by (λ (e : ℕ). (start ≤ e) × (e ≤ n)) (leb end n) end n (λ u. (ltb-false end start t, leb-true end n u)) (λ u. (h, omega arith)))
 
-  pub end-early : end < start → endIn n start end ≡ start
-  unfolding endIn
-  end-early h = rw (lt-ltb end start h)
-
-  pub end-late : start ≤ end → n < end → endIn n start end ≡ n
-  unfolding endIn
-  end-late h g = rw (le-ltb end start h, lt-leb end n g)
-
   -- one that lies there is itself
   pub end-plain : start ≤ end → end ≤ n → endIn n start end ≡ end
   unfolding endIn
   end-plain h g = rw (le-ltb end start h, le-leb end n g)
 
 -- ---- the lines
-
--- one from a place on, and those after it
-pub lines-next : (s es : List ℕ) (start i : ℕ) → i < length es
-    → linesFrom s start (drop i es)
-    ≡ take (endIn (length s) start (getD es i 0) - start) (drop start s) ∷ linesFrom s (endIn (length s) start (getD es i 0)) (drop (suc i) es)
-unfolding linesFrom
-lines-next s es start i h = ap (linesFrom s start) (drop-cons es i 0 h)
-
-pub lines-none : (s es : List ℕ) (start : ℕ) → linesFrom s start (drop (length es) es) ≡ []
-unfolding linesFrom
-lines-none s es start = ap (linesFrom s start) (drop-length es)
 
 pub lines-length : (s : List ℕ) (start : ℕ) (es : List ℕ) → length (linesFrom s start es) ≡ length es
 unfolding linesFrom
@@ -84,10 +65,6 @@ pub lines-all : (ls : List (List ℕ)) → linesAt (flat ls) (endsFrom 0 ls) ≡
 lines-all ls = lines-past [] 0 refl ls
 
 -- ---- how many are refused
-
-pub refusals-none : (room : List ℕ) → refusals room [] ≡ 0
-unfolding refusals
-refusals-none room = refl
 
 pub refusals-more : (room l : List ℕ) (ls : List (List ℕ)) (k : ℕ)
     → k + refusals room (l ∷ ls) ≡ pick (leb (callOf room l .number) 19) (suc k) k + refusals (roomAfter room l) ls
@@ -137,25 +114,25 @@ module _ {before s es room : List ℕ} {start i refused : ℕ} (F : Feeding befo
       → {after : List ℕ} → after ≡ roomAfter room (take (end - start) (drop start s)) → length after ≡ length room
       → {more : ℕ} → more ≡ pick (leb (t .number) 19) (suc refused) refused
       → Feeding before s es after end (i + 1) more
+  unfolding feed linesFrom
   feeding-turns h {end} e {t} n {after} a w {more} m =
       let r = feeding-within e in
-      let ls : linesFrom s start (drop i es) ≡ take (end - start) (drop start s) ∷ linesFrom s end (drop (i + 1) es) = rw (e, add-one) (lines-next s es start i h) in
+      let ls : linesFrom s start (drop i es) ≡ take (end - start) (drop start s) ∷ linesFrom s end (drop (i + 1) es) = rw (e, add-one, drop-cons es i 0 h) in
       record {
         inside = omega arith;
         passed = omega arith;
         few = rw m (pick-by (λ (k : ℕ). k ≤ i + 1) (leb (t .number) 19) (suc refused) refused (λ t. omega arith) (λ t. omega arith));
         as-long = w ∙ F .as-long;
-        room-left = rw (a, ← feed-more, ← ls) (F .room-left);
-        refused-left = rw (m, n, a, ← refusals-more, ← ls) (F .refused-left);
+        room-left = rw a (rw ls at (F .room-left));
+        refused-left = rw (m, n, a, ← refusals-more) (rw ls at (F .refused-left));
       }
 
   pub feeding-ends : length es ≤ i → Fed before room (linesAt s es) (record { lines = i; refused = refused })
+  unfolding feed linesFrom refusals
   feeding-ends h =
       let n : i ≡ length es = omega (arith, F .passed) in
-      let e : linesFrom s start (drop i es) ≡ [] = rw n (lines-none s es start) in
-      fed before room (linesAt s es) (record { lines = i; refused = refused })
-      (sym (feed-none room) ∙ ap (feed room) (sym e) ∙ F .room-left) (n ∙ sym (lines-length s 0 es))
-      (omega (arith, F .refused-left, ap (refusals room) e, refusals-none room))
+      let e : drop i es ≡ [] = rw n (drop-length es) in
+      fed before room (linesAt s es) (record { lines = i; refused = refused }) (rw e at (F .room-left)) (n ∙ sym (lines-length s 0 es)) (omega (arith, rw e at (F .refused-left)))
 
 -- ---- two desks
 

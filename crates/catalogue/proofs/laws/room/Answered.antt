@@ -1,6 +1,5 @@
 -- What a call answers is small: a refused line's column, and a place among the held lines.
 use Prim.Native.Nat.{ℕ, _≤_}
-use mathlib.Core.Path.{subst}
 use mathlib.Core.List.{List, _++_}
 use mathlib.Core.Option.{Option, none, some}
 use native.Mathlib.Omega.{arith}
@@ -17,8 +16,6 @@ use Rattle.catalogue.specs.declared.Looked.{Looked}
 use Rattle.catalogue.specs.Answers.{notInOrder}
 use Rattle.catalogue.specs.Assoc.{find, below}
 use Rattle.catalogue.specs.Line.{key, refusedAt}
-use Rattle.catalogue.specs.Catalogue.{Catalogue}
-use Rattle.catalogue.specs.Taking.{step}
 use Rattle.catalogue.specs.Room.{roomSize, contents, inOrder, checked, callOf}
 use Rattle.catalogue.specs.Ordered.{Ordered}
 use Rattle.catalogue.specs.LookUp.{looked, lookedBy, lookedIn, lookUp}
@@ -41,9 +38,7 @@ refused-bound (refusal n k) h = h
 
 pub column-low : (r l : List ℕ) → callOf r l .column ≤ 80
 column-low r l =
-    checked-by (λ (x : Call). x .column ≤ 80) r (λ (n : ℕ). record { number = n; column = 0 })
-    (record { number = step (contents (take roomSize r)) l .answer; column = refusedAt (readLine l) })
-    (λ n. omega arith) (λ o. refused-bound (readLine l) (line-bound l))
+    checked-by (λ (x : Call). x .column ≤ 80) r (λ (n : ℕ). record { number = n; column = 0 }) _ (λ n. omega arith) (λ o. refused-bound (readLine l) (line-bound l))
 
 abbrev PlaceLow : Looked → Type 0
 PlaceLow x = x .place ≤ 512
@@ -52,23 +47,16 @@ looked-low : (o : Option (List ℕ)) (i : ℕ) → i ≤ 512 → PlaceLow (looke
 looked-low none i h = omega arith
 looked-low (some x) i h = h
 
-module _ (r : List ℕ) (o : Ordered r) where
-  held-few : length (contents (take roomSize r) .held) ≤ 512
-  held-few = subst (λ (c : Catalogue). length (c .held) ≤ 512) (same-contents r o) (good-fits (contents r) (view-good r o) .0 .1)
-
-  in-low : (k : ℕ) → PlaceLow (lookedIn (contents (take roomSize r)) k)
-  unfolding lookedIn
-  in-low k =
-      looked-low (find key k (contents (take roomSize r) .held)) (below key k (contents (take roomSize r) .held))
-      (omega (arith, below-le key k (contents (take roomSize r) .held), held-few))
+in-low : (r : List ℕ) → Ordered r → (k : ℕ) → PlaceLow (lookedIn (contents (take roomSize r)) k)
+unfolding lookedIn
+in-low r o k =
+    rw (← same-contents r o)
+    (looked-low (find key k (contents r .held)) (below key k (contents r .held)) (omega (arith, below-le key k (contents r .held), good-fits (contents r) (view-good r o) .0 .1)))
 
 pub place-low : (r so id : List ℕ) → lookUp r so id .place ≤ 512
 unfolding lookUp
 place-low r so id =
-    let k : ℕ = wordOf 0 (so ++ id) in
-    let c : Catalogue = contents (take roomSize r) in
-    checked-by PlaceLow r (λ (n : ℕ). looked n 0) (pick (eqb (length so) 2) (pick (eqb (length id) 8) (lookedIn c k) (looked wrongLength 0)) (looked wrongLength 0))
-    (λ n. omega arith)
-    (λ o. pick-by PlaceLow (eqb (length so) 2) (pick (eqb (length id) 8) (lookedIn c k) (looked wrongLength 0)) (looked wrongLength 0)
-    (λ s. pick-by PlaceLow (eqb (length id) 8) (lookedIn c k) (looked wrongLength 0) (λ t. in-low r o k) (λ t. omega arith))
+    checked-by PlaceLow r (λ (n : ℕ). looked n 0) _ (λ n. omega arith)
+    (λ o. pick-by PlaceLow (eqb (length so) 2) _ (looked wrongLength 0)
+    (λ s. pick-by PlaceLow (eqb (length id) 8) _ (looked wrongLength 0) (λ t. in-low r o (wordOf 0 (so ++ id))) (λ t. omega arith))
     (λ s. omega arith))

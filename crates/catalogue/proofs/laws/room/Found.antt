@@ -1,9 +1,9 @@
 -- What the code finds of a line's pair in a room in order, and that it decides what the definition does.
 use Prim.Native.Nat.{ℕ, _+_, _≤_}
-use mathlib.Core.Path.{_≡_, refl, sym, _∙_, ap, ap₂, subst}
-use mathlib.Core.Logic.{_⊎_, inl, inr}
+use mathlib.Core.Path.{_≡_, refl, sym, _∙_, ap, subst}
+use mathlib.Core.Logic.{inl, inr}
 use mathlib.Core.List.{List, [], _∷_}
-use mathlib.Core.Option.{Option, none, some}
+use mathlib.Core.Option.{some}
 use native.Mathlib.Omega.{arith}
 use lib.ListN.{length, drop, getD, length-drop}
 use lib.Seq.{getD-drop}
@@ -14,9 +14,9 @@ use Rattle.catalogue.specs.declared.take.Notice.{Notice}
 use Rattle.catalogue.specs.declared.take.Notice.the-variants.{Event, Delete, Blank}
 use Rattle.catalogue.specs.declared.take.Findings.{Findings}
 use Rattle.catalogue.specs.Assoc.{find, AscFrom}
-use Rattle.catalogue.specs.Line.{Acceptable, Kind, event, kind, key, pair, deletion, deletionKey}
-use Rattle.catalogue.specs.Catalogue.{Catalogue, named}
-use Rattle.catalogue.specs.Taking.{decide, limited, deedOf}
+use Rattle.catalogue.specs.Line.{Acceptable, event, kind, key, pair, deletion, deletionKey}
+use Rattle.catalogue.specs.Catalogue.{named}
+use Rattle.catalogue.specs.Taking.{covered, decide, limited, deedOf}
 use Rattle.catalogue.specs.Room.{contents}
 use Rattle.catalogue.specs.Ordered.{Ordered}
 use Rattle.catalogue.specs.Keys.{keyIn}
@@ -27,7 +27,7 @@ use Rattle.catalogue.proofs.laws.assoc.Below.{below-le}
 use Rattle.catalogue.proofs.laws.section.Keys.{first-two, first-eight}
 use Rattle.catalogue.proofs.laws.section.Rows.{entries-length}
 use Rattle.catalogue.proofs.laws.section.Seek.{sought-find, sought-as}
-use Rattle.catalogue.proofs.laws.step.Decide.{covered-none, decide-event, limited-held, deed-of, held-decides}
+use Rattle.catalogue.proofs.laws.step.Decide.{deed-of, held-decides}
 use Rattle.catalogue.proofs.laws.room.Encode.{room-size}
 use Rattle.catalogue.proofs.laws.room.View.{view-good}
 use Rattle.catalogue.proofs.laws.room.Places.{held-key, deletion-key, held-entries, deletion-entries, held-inside, deletion-inside, held-asc, deletion-asc, used-fits}
@@ -57,21 +57,22 @@ module _ (r : List ℕ) (o : Ordered r) where
   pub long-enough : (2 ≤ length r) × (endOf (heldIn r) + 2 ≤ length r)
   long-enough = (omega (arith, room-size, o .long), omega (arith, used-fits r o, o .long))
 
-  -- both sections can be searched
-  pub held-open : (s : Section) → s ≡ heldIn r → Inside s r × AscFrom (entryKey s) 0 (entriesOf s r)
-  held-open s e = subst (λ (x : Section). Inside x r × AscFrom (entryKey x) 0 (entriesOf x r)) (sym e) (held-inside r o, held-asc r o)
+  -- both sections can be searched, and what a search finds is found in the catalogue
+  module _ {s : Section} (e : s ≡ heldIn r) where
+    pub held-open : Inside s r × AscFrom (entryKey s) 0 (entriesOf s r)
+    held-open = rw e (held-inside r o, held-asc r o)
 
-  pub deletion-open : (s : Section) → s ≡ deletionsIn r → Inside s r × AscFrom (entryKey s) 0 (entriesOf s r)
-  deletion-open s e = subst (λ (x : Section). Inside x r × AscFrom (entryKey x) 0 (entriesOf x r)) (sym e) (deletion-inside r o, deletion-asc r o)
+    pub held-sought : {k j : ℕ} → k ≡ j → (x : Seek) → Sought (entryKey s) k (entriesOf s r) x → Sought key j (contents r .held) x
+    held-sought {k} {j} f x h =
+        sought-as (entryKey s) key k j (entriesOf s r) (contents r .held) x (ap entryKey e ∙ held-key r) f (ap (λ (y : Section). entriesOf y r) e ∙ held-entries r o) h
 
-  -- and what a search finds is found in the catalogue
-  pub held-sought : (s : Section) (k j : ℕ) (x : Seek) → s ≡ heldIn r → k ≡ j → Sought (entryKey s) k (entriesOf s r) x → Sought key j (contents r .held) x
-  held-sought s k j x e f h =
-      sought-as (entryKey s) key k j (entriesOf s r) (contents r .held) x (ap entryKey e ∙ held-key r) f (ap (λ (y : Section). entriesOf y r) e ∙ held-entries r o) h
+  module _ {s : Section} (e : s ≡ deletionsIn r) where
+    pub deletion-open : Inside s r × AscFrom (entryKey s) 0 (entriesOf s r)
+    deletion-open = rw e (deletion-inside r o, deletion-asc r o)
 
-  pub deletion-sought : (s : Section) (k j : ℕ) (x : Seek) → s ≡ deletionsIn r → k ≡ j → Sought (entryKey s) k (entriesOf s r) x → Sought deletionKey j (contents r .deletions) x
-  deletion-sought s k j x e f h =
-      sought-as (entryKey s) deletionKey k j (entriesOf s r) (contents r .deletions) x (ap entryKey e ∙ deletion-key r) f (ap (λ (y : Section). entriesOf y r) e ∙ deletion-entries r o) h
+    pub deletion-sought : {k j : ℕ} → k ≡ j → (x : Seek) → Sought (entryKey s) k (entriesOf s r) x → Sought deletionKey j (contents r .deletions) x
+    deletion-sought {k} {j} f x h =
+        sought-as (entryKey s) deletionKey k j (entriesOf s r) (contents r .deletions) x (ap entryKey e ∙ deletion-key r) f (ap (λ (y : Section). entriesOf y r) e ∙ deletion-entries r o) h
 
   module _ (l : List ℕ) (f : Findings) (K : Known r l f) where
     held-rows : entriesOf (f .held) r ≡ contents r .held
@@ -80,59 +81,45 @@ module _ (r : List ℕ) (o : Ordered r) where
     deletion-rows : entriesOf (f .deletions) r ≡ contents r .deletions
     deletion-rows = ap (λ (y : Section). entriesOf y r) (K .deletions-are) ∙ deletion-entries r o
 
-    deletion-place : Sought deletionKey (key l) (contents r .deletions) (f .in_deletions) ⊎ ((kind l ≡ event) × IsFound (f .in_held) × (f .in_deletions ≡ Missing 0))
-        → placeOf (f .in_deletions) (f .deletions .count)
-    deletion-place (inl s) =
-        let n : length (contents r .deletions) ≡ f .deletions .count = sym (ap length deletion-rows) ∙ entries-length (f .deletions) r in
-        subst (placeOf (f .in_deletions)) n (sought-place deletionKey (key l) (contents r .deletions) (f .in_deletions) s)
-    deletion-place (inr u) = subst (λ (x : Seek). placeOf x (f .deletions .count)) (sym (u .2)) (omega arith)
+    -- where the pair is in no held line, or the line is no event, the deletions were searched
+    pub searched : (kind l ≡ event → IsFound (f .in_held) → ⊥) → Sought deletionKey (key l) (contents r .deletions) (f .in_deletions)
+    searched n = elim (K .in-deletions) [ inl s ↦ s | inr u ↦ absurd (n (u .0) (u .1)) ]
 
     pub known-placed : Placed r f
     known-placed =
         let n : length (contents r .held) ≡ f .held .count = sym (ap length held-rows) ∙ entries-length (f .held) r in
+        let m : length (contents r .deletions) ≡ f .deletions .count = sym (ap length deletion-rows) ∙ entries-length (f .deletions) r in
         record {
-          held-inside = held-open (f .held) (K .held-is) .0;
-          deletions-inside = deletion-open (f .deletions) (K .deletions-are) .0;
+          held-inside = held-open (K .held-is) .0;
+          deletions-inside = deletion-open (K .deletions-are) .0;
           held-size = ap (λ (s : Section). s .size) (K .held-is);
           deletion-size = ap (λ (s : Section). s .size) (K .deletions-are);
           held-place = subst (placeOf (f .in_held)) n (sought-place key (key l) (contents r .held) (f .in_held) (K .in-held));
-          deletion-place = deletion-place (K .in-deletions);
+          deletion-place = elim (K .in-deletions) [
+            | inl s ↦ subst (placeOf (f .in_deletions)) m (sought-place deletionKey (key l) (contents r .deletions) (f .in_deletions) s)
+            | inr u ↦ rw (u .2) (omega arith)
+          ];
         }
 
     pub found-held : find key (key l) (contents r .held) ≡ entryOf (entriesOf (f .held) r) (f .in_held)
     found-held = sought-find key (key l) (contents r .held) (view-good r o .held-ascends) (f .in_held) (K .in-held) ∙ ap (λ (xs : List (List ℕ)). entryOf xs (f .in_held)) (sym held-rows)
 
-    pub found-deletion : Sought deletionKey (key l) (contents r .deletions) (f .in_deletions) → find deletionKey (key l) (contents r .deletions) ≡ entryOf (entriesOf (f .deletions) r) (f .in_deletions)
-    found-deletion s =
-        sought-find deletionKey (key l) (contents r .deletions) (view-good r o .deletion-ascends) (f .in_deletions) s ∙ ap (λ (xs : List (List ℕ)). entryOf xs (f .in_deletions)) (sym deletion-rows)
-
     some-held : (xs : List (List ℕ)) (s : Seek) → IsFound s → (h : List ℕ) × (entryOf xs s ≡ some h)
     some-held xs (Found i) u = (getD xs i [], refl)
     some-held xs (Missing i) u = absurd u
 
-    -- by what was found, searched or not
-    deed-by : (n : Notice) → kind l ≡ noticeKind n
-        → Sought deletionKey (key l) (contents r .deletions) (f .in_deletions) ⊎ ((kind l ≡ event) × IsFound (f .in_held) × (f .in_deletions ≡ Missing 0))
-        → limited (named (contents r)) (entryOf (entriesOf (f .deletions) r) (f .in_deletions)) (entryOf (entriesOf (f .held) r) (f .in_held))
-        (decide (noticeKind n) l (entryOf (entriesOf (f .deletions) r) (f .in_deletions)) (entryOf (entriesOf (f .held) r) (f .in_held)))
-        ≡ deedOf (contents r) l
-    deed-by n e (inl s) =
-        sym (deed-of (contents r) l (noticeKind n) (entryOf (entriesOf (f .deletions) r) (f .in_deletions)) (entryOf (entriesOf (f .held) r) (f .in_held)) e (found-deletion s) found-held)
-    deed-by n e (inr u) =
-        let xs : List (List ℕ) = entriesOf (f .held) r in
-        let ds : List (List ℕ) = entriesOf (f .deletions) r in
-        let c : Catalogue = contents r in
-        let w = some-held xs (f .in_held) (u .1) in
-        let k : noticeKind n ≡ event = sym e ∙ u .0 in
-        let a : entryOf ds (f .in_deletions) ≡ none = ap (entryOf ds) (u .2) in
-        ap₂ (λ (x y : Option (List ℕ)). limited (named c) x y (decide (noticeKind n) l x y)) a (w .1)
-        ∙ limited-held (named c) (decide (noticeKind n) l none (some (w .0))) none (w .0)
-        ∙ ap (λ (t : Kind). decide t l none (some (w .0))) k
-        ∙ decide-event l none (some (w .0)) (covered-none _)
-        ∙ sym (held-decides c l (view-good r o) (w .0) (u .0) (found-held ∙ w .1))
-
+    -- what was found decides, searched or not
     pub known-decides : (n : Notice) → kind l ≡ noticeKind n
         → limited (named (contents r)) (entryOf (entriesOf (f .deletions) r) (f .in_deletions)) (entryOf (entriesOf (f .held) r) (f .in_held))
         (decide (noticeKind n) l (entryOf (entriesOf (f .deletions) r) (f .in_deletions)) (entryOf (entriesOf (f .held) r) (f .in_held)))
         ≡ deedOf (contents r) l
-    known-decides n e = deed-by n e (K .in-deletions)
+    unfolding limited decide covered
+    known-decides n e =
+        elim (K .in-deletions) [
+          | inl s ↦
+              sym (deed-of (contents r) l (noticeKind n) (entryOf (entriesOf (f .deletions) r) (f .in_deletions)) (entryOf (entriesOf (f .held) r) (f .in_held)) e
+              (sought-find deletionKey (key l) (contents r .deletions) (view-good r o .deletion-ascends) (f .in_deletions) s ∙ ap (λ (xs : List (List ℕ)). entryOf xs (f .in_deletions)) (sym deletion-rows)) found-held)
+          | inr u ↦
+              let w = some-held (entriesOf (f .held) r) (f .in_held) (u .1) in
+              rw (u .2, w .1, sym e ∙ u .0) (sym (held-decides (contents r) l (view-good r o) (w .0) (u .0) (found-held ∙ w .1)))
+        ]

@@ -1,32 +1,26 @@
--- Each answer of a look-up, as the code comes to it.
-use Prim.Native.Nat.{ℕ, _+_, _*_, _≤_, _<_}
-use mathlib.Core.Path.{_≡_, refl, sym, _∙_, ap, ap₂, subst}
-use mathlib.Core.Bool.{false}
+-- What a look-up answers for a pair, as the code comes to it.
+use Prim.Native.Nat.{ℕ, _+_, _*_, _<_}
+use mathlib.Core.Path.{_≡_, sym, _∙_, ap, ap₂}
 use mathlib.Core.List.{List, _++_}
 use native.Mathlib.Omega.{arith}
-use borrow.Author.Tests.{eq-eqb, ne-eqb}
+use borrow.Author.Tests.{eq-eqb}
 use lib.ListN.{length, take, drop, getD, length-append, List·getD-append}
 use lib.Seq.{take-at, drop-at, take-all, getD-append-add}
-use Rattle.columns.specs.Answer.{tooShort}
-use Rattle.formats.specs.Cube.{wrongLength}
 use Rattle.formats.specs.Record.{wordOf}
+use Rattle.catalogue.specs.declared.Looked.{Looked}
 use Rattle.catalogue.specs.declared.key.Key.{Key}
-use Rattle.catalogue.specs.declared.section.Section.{Section}
 use Rattle.catalogue.specs.declared.section.Seek.{Seek}
 use Rattle.catalogue.specs.declared.section.Seek.the-variants.{Found, Missing}
-use Rattle.catalogue.specs.Answers.{notInOrder, isHeld, notHeld}
+use Rattle.catalogue.specs.Answers.{isHeld, notHeld}
 use Rattle.catalogue.specs.Line.{key}
-use Rattle.catalogue.specs.Catalogue.{Catalogue}
-use Rattle.catalogue.specs.Room.{roomSize, contents, inOrder}
+use Rattle.catalogue.specs.Room.{contents}
 use Rattle.catalogue.specs.Ordered.{Ordered}
 use Rattle.catalogue.specs.Keys.{two, eight, keyIn, keyNumber}
-use Rattle.catalogue.specs.Entries.{entriesOf, entryKey, Sought}
-use Rattle.catalogue.specs.Places.{heldIn}
+use Rattle.catalogue.specs.Entries.{Sought}
 use Rattle.catalogue.specs.LookUp.{looked, lookedIn, lookUp}
 use Rattle.catalogue.proofs.laws.section.Keys.{key-of-words}
-use Rattle.catalogue.proofs.laws.section.Seek.{found-find, missing-find, sought-as}
-use Rattle.catalogue.proofs.laws.room.View.{checked-short, checked-disorder, checked-fine, same-contents, view-good}
-use Rattle.catalogue.proofs.laws.room.Places.{held-key, held-entries}
+use Rattle.catalogue.proofs.laws.section.Seek.{found-find, missing-find}
+use Rattle.catalogue.proofs.laws.room.View.{checked-fine, same-contents, view-good}
 
 -- ---- the key of a source and an identifier
 
@@ -55,42 +49,17 @@ module _ (so id : List ℕ) (hs : length so ≡ 2) (hi : length id ≡ 8) where
 
 -- ---- a key in a room in order
 
-module _ (r : List ℕ) (o : Ordered r) (held : Section) (eh : held ≡ heldIn r) (k : ℕ) (s : Seek) (q : Sought (entryKey held) k (entriesOf held r) s) where
-  told : (t : Seek) → s ≡ t → Sought key k (contents r .held) t
-  told t e =
-      sought-as (entryKey held) key k k (entriesOf held r) (contents r .held) t (ap entryKey eh ∙ held-key r) refl (ap (λ (x : Section). entriesOf x r) eh ∙ held-entries r o)
-      (subst (Sought (entryKey held) k (entriesOf held r)) e q)
+-- the answer, by what the search said
+abbrev pub seen : Seek → Looked
+seen (Found i) = looked isHeld i
+seen (Missing i) = looked notHeld 0
 
-  pub looked-found : (i : ℕ) → s ≡ Found i → looked isHeld i ≡ lookedIn (contents r) k
-  unfolding lookedIn
-  looked-found i e = sym (rw (found-find key k (contents r .held) i (told (Found i) e), ← told (Found i) e .0))
+pub seen-is : (r : List ℕ) → Ordered r → (k : ℕ) (s : Seek) → Sought key k (contents r .held) s → seen s ≡ lookedIn (contents r) k
+unfolding lookedIn
+seen-is r o k (Found i) q = sym (rw (found-find key k (contents r .held) i q, ← q .0))
+seen-is r o k (Missing i) q = sym (rw (missing-find key k (contents r .held) (view-good r o .held-ascends) i q))
 
-  pub looked-missing : (i : ℕ) → s ≡ Missing i → looked notHeld 0 ≡ lookedIn (contents r) k
-  unfolding lookedIn
-  looked-missing i e = sym (rw (missing-find key k (contents r .held) (view-good r o .held-ascends) i (told (Missing i) e)))
-
--- ---- the order of checks
-
-module _ (r so id : List ℕ) where
-  pub look-short : length r < roomSize → looked tooShort 0 ≡ lookUp r so id
-  unfolding lookUp
-  look-short h = sym (checked-short r (λ (n : ℕ). looked n 0) _ h)
-
-  pub look-disorder : roomSize ≤ length r → inOrder (take roomSize r) ≡ false → looked notInOrder 0 ≡ lookUp r so id
-  unfolding lookUp
-  look-disorder h e = sym (checked-disorder r (λ (n : ℕ). looked n 0) _ h e)
-
-  module _ (o : Ordered r) where
-    pub look-source : (length so ≡ 2 → ⊥) → looked wrongLength 0 ≡ lookUp r so id
-    unfolding lookUp
-    look-source n = sym (checked-fine r (λ (n : ℕ). looked n 0) _ o ∙ rw (ne-eqb (length so) 2 n))
-
-    module _ (s : length so ≡ 2) where
-      pub look-identifier : (length id ≡ 8 → ⊥) → looked wrongLength 0 ≡ lookUp r so id
-      unfolding lookUp
-      look-identifier n = sym (checked-fine r (λ (n : ℕ). looked n 0) _ o ∙ rw (eq-eqb (length so) 2 s, ne-eqb (length id) 8 n))
-
-      pub look-pair : length id ≡ 8 → (k : ℕ) → k ≡ wordOf 0 (so ++ id) → lookedIn (contents r) k ≡ lookUp r so id
-      unfolding lookUp
-      look-pair i k e =
-          ap₂ (λ (c : Catalogue) (n : ℕ). lookedIn c n) (same-contents r o) e ∙ sym (checked-fine r (λ (n : ℕ). looked n 0) _ o ∙ rw (eq-eqb (length so) 2 s, eq-eqb (length id) 8 i))
+-- ---- both lengths are right: the answer is that of the pair
+pub look-pair : (r so id : List ℕ) → Ordered r → length so ≡ 2 → length id ≡ 8 → {k : ℕ} → k ≡ wordOf 0 (so ++ id) → lookedIn (contents r) k ≡ lookUp r so id
+unfolding lookUp
+look-pair r so id o s i e = rw (checked-fine r (λ (n : ℕ). looked n 0) _ o, eq-eqb (length so) 2 s, eq-eqb (length id) 8 i, ← same-contents r o, e)

@@ -1,12 +1,10 @@
 -- The order check: a law for each of its answers.
 use Prim.Native.Nat.{ℕ, _+_, _-_, _≤_, _<_}
-use mathlib.Core.Path.{_≡_, refl, sym, _∙_, ap, ap₂, subst}
-use mathlib.Core.Bool.{Bool, true, false, _&&_}
+use mathlib.Core.Path.{_≡_, refl, sym, _∙_, ap, subst}
+use mathlib.Core.Bool.{Bool, true, false}
 use mathlib.Core.List.{List, _++_}
 use native.Mathlib.Omega.{arith}
-use borrow.Author.Tests.{leb-true, le-leb}
-use lib.Dec.{leb}
-use lib.ListN.{length, take, drop, getD, replicate, length-drop}
+use lib.ListN.{length, take, drop, getD, length-drop}
 use lib.Seq.{take-all, length-take-le}
 use Rattle.columns.specs.Answer.{pick}
 use Rattle.formats.specs.Record.{sameBytes}
@@ -20,11 +18,12 @@ use Rattle.catalogue.specs.Room.{roomOf, roomSize, encode, contents, inO
 use Rattle.catalogue.specs.Ordered.{Ordered}
 use Rattle.catalogue.specs.Entries.{entriesOf, entryKey, Inside}
 use Rattle.catalogue.specs.Places.{endOf, heldIn, deletionsIn}
+use Rattle.catalogue.specs.Keys.{two}
 use Rattle.catalogue.specs.Zeros.{allZero}
 use Rattle.catalogue.proofs.laws.assoc.Tests.{and-both, asc-of}
 use Rattle.catalogue.proofs.laws.section.Rows.{entries-length}
 use Rattle.catalogue.proofs.laws.section.Laid.{used, laid-length, laid-said}
-use Rattle.catalogue.proofs.laws.step.Good.{good-of, good-fits}
+use Rattle.catalogue.proofs.laws.step.Good.{Tests, tests-of, tests-good, good-of, good-fits}
 use Rattle.catalogue.proofs.laws.room.Encode.{room-size}
 use Rattle.catalogue.proofs.laws.room.View.{same-contents, view-good}
 use Rattle.catalogue.proofs.laws.room.Places.{held-key, deletion-key, contents-entries, few}
@@ -32,34 +31,6 @@ use Rattle.catalogue.proofs.laws.room.Zeros.{zero-rest}
 
 differ : (b : Bool) → b ≡ true → b ≡ false → ⊥
 differ b e f = let z : _≡_ {A = ℕ} 0 1 = cc in omega arith
-
--- ---- the tests of a good catalogue
-
-abbrev catalogue : List (List ℕ) → List (List ℕ) → Catalogue
-catalogue H D = record { held = H; deletions = D }
-
-record Tests (H D : List (List ℕ)) : Type 0 where
-  pub held-ascends : ascends key 0 H ≡ true
-  pub deletions-ascend : ascends deletionKey 0 D ≡ true
-  pub held-fine : every (heldOk D) H ≡ true
-  pub deletions-fine : every deletionOk D ≡ true
-  pub few-named : length D + length (onlyHeld D H) ≤ 512
-
-module _ (H D : List (List ℕ)) where
-  tests-of : good (catalogue H D) ≡ true → Tests H D
-  unfolding good named
-  tests-of g =
-      let r = and-both (ascends key 0 H && ascends deletionKey 0 D) ((every (heldOk D) H && every deletionOk D) && leb (named (catalogue H D)) 512) g in
-      let a = and-both (ascends key 0 H) (ascends deletionKey 0 D) (r .0) in
-      let t = and-both (every (heldOk D) H && every deletionOk D) (leb (named (catalogue H D)) 512) (r .1) in
-      let e = and-both (every (heldOk D) H) (every deletionOk D) (t .0) in
-      record { held-ascends = a .0; deletions-ascend = a .1; held-fine = e .0; deletions-fine = e .1; few-named = leb-true (named (catalogue H D)) 512 (t .1) }
-
-  tests-good : Tests H D → good (catalogue H D) ≡ true
-  unfolding good named
-  tests-good t = simp (t .held-ascends, t .deletions-ascend, t .held-fine, t .deletions-fine, le-leb (length D + length (onlyHeld D H)) 512 (t .few-named))
-
--- ---- a room's bytes
 
 -- how many pairs a room in order names, or 513
 abbrev pub PairsOf : List ℕ → ℕ → Type 0
@@ -76,138 +47,142 @@ module _ (s : List ℕ) (len : length s ≡ roomSize) where
   as-ordered : inOrder s ≡ true → Ordered s
   as-ordered e = record { long = omega (arith, len); fine = ap inOrder (take-all roomSize s (omega (arith, len))) ∙ e }
 
-  module _ (held : Section) (eh : held ≡ heldIn s) where
-    pub many-held : 512 < held .count → PairsOf s 513
-    many-held h = refused (λ (e : inOrder s ≡ true). omega (arith, few s (as-ordered e) .0, ap (λ (x : Section). x .count) eh))
+  pub many-held : {held : Section} → held ≡ heldIn s → 512 < held .count → PairsOf s 513
+  many-held e h = refused (λ (o : inOrder s ≡ true). omega (arith, few s (as-ordered o) .0, ap (λ (x : Section). x .count) e))
 
-    pub held-end : held .count ≤ 512 → endOf held + 2 ≤ length s
-    held-end h = omega (arith, ap endOf eh, ap (λ (x : Section). x .count) eh, len, room-size)
+  pub held-end : {held : Section} → held ≡ heldIn s → held .count ≤ 512 → endOf held + 2 ≤ length s
+  held-end e h = omega (arith, ap endOf e, ap (λ (x : Section). x .count) e, len, room-size)
 
-    pub held-within : held .count ≤ 512 → Inside held s
-    held-within h = record {
-      fits = omega (arith, held-end h);
-      source = omega (arith, ap (λ (x : Section). x .source) eh, ap (λ (x : Section). x .size) eh);
-      identifier = omega (arith, ap (λ (x : Section). x .identifier) eh, ap (λ (x : Section). x .size) eh);
-    }
+  pub many-deletions : {deletions : Section} → deletions ≡ deletionsIn s → 512 < deletions .count → PairsOf s 513
+  many-deletions e h = refused (λ (o : inOrder s ≡ true). omega (arith, few s (as-ordered o) .1, ap (λ (x : Section). x .count) e))
 
-    module _ (deletions : Section) (ed : deletions ≡ deletionsIn s) where
-      pub many-deletions : 512 < deletions .count → PairsOf s 513
-      many-deletions h = refused (λ (e : inOrder s ≡ true). omega (arith, few s (as-ordered e) .1, ap (λ (x : Section). x .count) ed))
+-- ---- the sections that the code reads, neither too long
 
-      pub deletions-end : held .count ≤ 512 → deletions .count ≤ 512 → endOf deletions ≤ 46596
-      deletions-end h k = omega (arith, ap endOf ed, ap (λ (x : Section). x .count) eh, ap (λ (x : Section). x .count) ed)
+pub record Sections (s : List ℕ) (held deletions : Section) : Type 0 where
+  pub full : length s ≡ roomSize
+  pub held-is : held ≡ heldIn s
+  pub deletions-are : deletions ≡ deletionsIn s
+  pub few-held : held .count ≤ 512
+  pub few-deletions : deletions .count ≤ 512
 
-      pub deletions-within : held .count ≤ 512 → deletions .count ≤ 512 → Inside deletions s
-      deletions-within h k = record {
-        fits = omega (arith, deletions-end h k, len, room-size);
-        source = omega (arith, ap (λ (x : Section). x .source) ed, ap (λ (x : Section). x .size) ed);
-        identifier = omega (arith, ap (λ (x : Section). x .identifier) ed, ap (λ (x : Section). x .size) ed);
-      }
+-- the catalogue of their entries
+abbrev read : List ℕ → Section → Section → Catalogue
+read s held deletions = record { held = entriesOf held s; deletions = entriesOf deletions s }
 
-      contents-are : contents s ≡ catalogue (entriesOf held s) (entriesOf deletions s)
-      contents-are = contents-entries s ∙ sym (ap₂ (λ (x y : Section). catalogue (entriesOf x s) (entriesOf y s)) eh ed)
+module _ {s : List ℕ} {held deletions : Section} (S : Sections s held deletions) where
+  counts : (held .count ≡ two s 0) × (deletions .count ≡ two s (endOf (heldIn s)))
+  counts = (ap (λ (x : Section). x .count) (S .held-is), ap (λ (x : Section). x .count) (S .deletions-are))
 
-      tests : inOrder s ≡ true → Tests (entriesOf held s) (entriesOf deletions s)
-      unfolding inOrder
-      tests e =
-          tests-of (entriesOf held s) (entriesOf deletions s) (ap good (sym contents-are) ∙ and-both (good (contents s)) (sameBytes (encode (contents s)) s) e .0)
+  pub deletions-end : endOf deletions ≤ 46596
+  deletions-end = omega (arith, ap endOf (S .deletions-are), counts .0, counts .1, S .few-held, S .few-deletions)
 
-      held-same : ascends (entryKey held) 0 (entriesOf held s) ≡ ascends key 0 (entriesOf held s)
-      held-same = ap (λ (f : List ℕ → ℕ). ascends f 0 (entriesOf held s)) (ap entryKey eh ∙ held-key s)
+  pub held-within : Inside held s
+  held-within = rw (S .held-is) (record { fits = omega (arith, counts .0, S .few-held, S .full, room-size); source = omega arith; identifier = omega arith })
 
-      deletions-same : ascends (entryKey deletions) 0 (entriesOf deletions s) ≡ ascends deletionKey 0 (entriesOf deletions s)
-      deletions-same = ap (λ (f : List ℕ → ℕ). ascends f 0 (entriesOf deletions s)) (ap entryKey ed ∙ deletion-key s)
+  pub deletions-within : Inside deletions s
+  deletions-within =
+      rw (S .deletions-are) (record { fits = omega (arith, ap endOf (S .deletions-are), deletions-end, S .full, room-size); source = omega arith; identifier = omega arith })
 
-      pub held-asc : ascends (entryKey held) 0 (entriesOf held s) ≡ true → AscFrom key 0 (entriesOf held s)
-      held-asc e = asc-of key 0 (entriesOf held s) (sym held-same ∙ e)
+  contents-are : contents s ≡ read s held deletions
+  contents-are = contents-entries s ∙ sym (rw (S .held-is, S .deletions-are))
 
-      pub deletions-asc : ascends (entryKey deletions) 0 (entriesOf deletions s) ≡ true → AscFrom deletionKey 0 (entriesOf deletions s)
-      deletions-asc e = asc-of deletionKey 0 (entriesOf deletions s) (sym deletions-same ∙ e)
+  tests : inOrder s ≡ true → Tests (read s held deletions)
+  unfolding inOrder
+  tests e = tests-of (read s held deletions) (ap good (sym contents-are) ∙ and-both (good (contents s)) (sameBytes (encode (contents s)) s) e .0)
 
-      pub deletions-mixed : ascends (entryKey deletions) 0 (entriesOf deletions s) ≡ false → PairsOf s 513
-      deletions-mixed f =
-          refused (λ (e : inOrder s ≡ true). differ (ascends deletionKey 0 (entriesOf deletions s)) (tests e .deletions-ascend) (sym deletions-same ∙ f))
+  -- a test that fails
+  fails : {b : Bool} → (Tests (read s held deletions) → b ≡ true) → b ≡ false → PairsOf s 513
+  fails {b} t e = refused s (S .full) (λ (o : inOrder s ≡ true). differ b (t (tests o)) e)
 
-      pub held-mixed : ascends (entryKey held) 0 (entriesOf held s) ≡ false → PairsOf s 513
-      held-mixed f = refused (λ (e : inOrder s ≡ true). differ (ascends key 0 (entriesOf held s)) (tests e .held-ascends) (sym held-same ∙ f))
+  held-same : ascends (entryKey held) 0 (entriesOf held s) ≡ ascends key 0 (entriesOf held s)
+  held-same = ap (λ (f : List ℕ → ℕ). ascends f 0 (entriesOf held s)) (ap entryKey (S .held-is) ∙ held-key s)
 
-      pub deletions-barred : every deletionOk (entriesOf deletions s) ≡ false → PairsOf s 513
-      deletions-barred f = refused (λ (e : inOrder s ≡ true). differ (every deletionOk (entriesOf deletions s)) (tests e .deletions-fine) f)
+  deletions-same : ascends (entryKey deletions) 0 (entriesOf deletions s) ≡ ascends deletionKey 0 (entriesOf deletions s)
+  deletions-same = ap (λ (f : List ℕ → ℕ). ascends f 0 (entriesOf deletions s)) (ap entryKey (S .deletions-are) ∙ deletion-key s)
 
-      module _ (k : ℕ) (counted : k ≡ pick (every (heldOk (entriesOf deletions s)) (entriesOf held s)) (length (onlyHeld (entriesOf deletions s) (entriesOf held s))) 513) where
-        pub many-named : 512 < deletions .count + k → PairsOf s 513
-        many-named h =
-            refused (λ (e : inOrder s ≡ true).
-            let f : k ≡ length (onlyHeld (entriesOf deletions s) (entriesOf held s)) = counted ∙ rw (tests e .held-fine) in
-            omega (arith, tests e .few-named, entries-length deletions s))
+  pub held-asc : ascends (entryKey held) 0 (entriesOf held s) ≡ true → AscFrom key 0 (entriesOf held s)
+  held-asc e = asc-of key 0 (entriesOf held s) (sym held-same ∙ e)
 
-        module _ (a : ascends (entryKey deletions) 0 (entriesOf deletions s) ≡ true) (b : ascends (entryKey held) 0 (entriesOf held s) ≡ true)
-            (d : every deletionOk (entriesOf deletions s) ≡ true) (low : deletions .count + k ≤ 512) where
-          held-all : (every (heldOk (entriesOf deletions s)) (entriesOf held s) ≡ true) × (k ≡ length (onlyHeld (entriesOf deletions s) (entriesOf held s)))
-          held-all = by-test (every (heldOk (entriesOf deletions s)) (entriesOf held s)) counted
-            where
-              by-test : (t : Bool) → k ≡ pick t (length (onlyHeld (entriesOf deletions s) (entriesOf held s))) 513 → (t ≡ true) × (k ≡ length (onlyHeld (entriesOf deletions s) (entriesOf held s)))
-              by-test true e = (refl, e)
-              by-test false e = let y : ⊥ = omega arith in absurd y
+  pub deletions-asc : ascends (entryKey deletions) 0 (entriesOf deletions s) ≡ true → AscFrom deletionKey 0 (entriesOf deletions s)
+  deletions-asc e = asc-of deletionKey 0 (entriesOf deletions s) (sym deletions-same ∙ e)
 
-          good-contents : good (contents s) ≡ true
-          good-contents =
-              ap good contents-are
-              ∙ tests-good (entriesOf held s) (entriesOf deletions s) (record {
-                held-ascends = sym held-same ∙ b;
-                deletions-ascend = sym deletions-same ∙ a;
-                held-fine = held-all .0;
-                deletions-fine = d;
-                few-named = omega (arith, held-all .1, entries-length deletions s);
-              })
+  pub deletions-mixed : ascends (entryKey deletions) 0 (entriesOf deletions s) ≡ false → PairsOf s 513
+  deletions-mixed = fails (λ (t : Tests (read s held deletions)). deletions-same ∙ t .deletions-ascend)
 
-          named-is : deletions .count + k ≡ named (contents s)
-          unfolding named
-          named-is = omega (arith, held-all .1, entries-length deletions s, ap (λ (c : Catalogue). named c) contents-are)
+  pub held-mixed : ascends (entryKey held) 0 (entriesOf held s) ≡ false → PairsOf s 513
+  held-mixed = fails (λ (t : Tests (read s held deletions)). held-same ∙ t .held-ascends)
 
-          module _ (small : (i : ℕ) → getD s i 0 < 256) (h : held .count ≤ 512) (u : ℕ) (end : u ≡ endOf deletions) where
-            used-is : length (laid (parts (contents s))) ≡ u
-            used-is =
-                omega (
-                  arith,
-                  laid-length (parts (contents s)) (good-fits (contents s) (good-of (contents s) good-contents)),
-                  ap (λ (c : Catalogue). length (c .held)) contents-are,
-                  ap (λ (c : Catalogue). length (c .deletions)) contents-are,
-                  entries-length held s,
-                  entries-length deletions s,
-                  ap (λ (x : Section). x .count) eh,
-                  ap endOf ed,
-                  ap (λ (x : Section). x .count) ed,
-                )
+  pub deletions-barred : every deletionOk (entriesOf deletions s) ≡ false → PairsOf s 513
+  deletions-barred = fails (λ (t : Tests (read s held deletions)). t .deletions-fine)
 
-            said-parts : said (parts empty) s ≡ parts (contents s)
-            unfolding contents said
-            said-parts = refl
+  -- the held lines that no deletion names, counted
+  module _ {k : ℕ} (counted : k ≡ pick (every (heldOk (entriesOf deletions s)) (entriesOf held s)) (length (onlyHeld (entriesOf deletions s) (entriesOf held s))) 513) where
+    pub many-named : 512 < deletions .count + k → PairsOf s 513
+    unfolding named
+    many-named h =
+        refused s (S .full) (λ (e : inOrder s ≡ true).
+        let f : k ≡ length (onlyHeld (entriesOf deletions s) (entriesOf held s)) = counted ∙ rw (tests e .held-fine) in
+        omega (arith, tests e .few-named, entries-length deletions s))
 
-            fits : u ≤ length s
-            fits = omega (arith, deletions-end h (omega arith), len, room-size)
+    module _ (a : ascends (entryKey deletions) 0 (entriesOf deletions s) ≡ true) (b : ascends (entryKey held) 0 (entriesOf held s) ≡ true)
+        (d : every deletionOk (entriesOf deletions s) ≡ true) (low : deletions .count + k ≤ 512) where
+      held-all : (every (heldOk (entriesOf deletions s)) (entriesOf held s) ≡ true) × (k ≡ length (onlyHeld (entriesOf deletions s) (entriesOf held s)))
+      held-all = by-test (every (heldOk (entriesOf deletions s)) (entriesOf held s)) counted
+        where
+          by-test : (t : Bool) → k ≡ pick t (length (onlyHeld (entriesOf deletions s) (entriesOf held s))) 513 → (t ≡ true) × (k ≡ length (onlyHeld (entriesOf deletions s) (entriesOf held s)))
+          by-test true e = (refl, e)
+          by-test false e = let y : ⊥ = omega arith in absurd y
 
-            front : laid (parts (contents s)) ++ drop (length (laid (parts (contents s)))) s ≡ s
-            front =
-                let e : used (said (parts empty) s) ≡ length (laid (parts (contents s))) =
-                ap used said-parts ∙ sym (laid-length (parts (contents s)) (good-fits (contents s) (good-of (contents s) good-contents))) in
-                sym (ap₂ (λ (x : List ℕ) (n : ℕ). x ++ drop n s) (ap laid said-parts) e) ∙ laid-said (parts empty) s small (omega (arith, used-is, fits))
+      good-contents : good (contents s) ≡ true
+      unfolding named
+      good-contents =
+          ap good contents-are
+          ∙ tests-good (read s held deletions) (record {
+            held-ascends = sym held-same ∙ b;
+            deletions-ascend = sym deletions-same ∙ a;
+            held-fine = held-all .0;
+            deletions-fine = d;
+            few-named = omega (arith, held-all .1, entries-length deletions s);
+          })
 
-            rest : take (46596 - u) (drop u s) ≡ drop (length (laid (parts (contents s)))) s
-            rest = take-all (46596 - u) (drop u s) (simp length-drop (omega (arith, len, room-size))) ∙ ap (λ (n : ℕ). drop n s) (sym used-is)
+      named-is : deletions .count + k ≡ named (contents s)
+      unfolding named
+      named-is = omega (arith, held-all .1, entries-length deletions s, ap (λ (c : Catalogue). named c) contents-are)
 
-            in-order-is : inOrder s ≡ allZero (take (46596 - u) (drop u s))
-            unfolding inOrder encode roomOf
-            in-order-is =
-                rw good-contents
-                (ap (λ (n : ℕ). sameBytes (laid (parts (contents s)) ++ replicate (n - length (laid (parts (contents s)))) 0) s) (sym len)
-                ∙ zero-rest (laid (parts (contents s))) s front ∙ ap allZero (sym rest))
+      laid-is : length (laid (parts (contents s))) ≡ used (parts (contents s))
+      laid-is = laid-length (parts (contents s)) (good-fits (contents s) (good-of (contents s) good-contents))
 
-            pub named-pairs : allZero (take (46596 - u) (drop u s)) ≡ true → PairsOf s (deletions .count + k)
-            named-pairs z = named-is ∙ sym (rw (in-order-is ∙ z))
+      module _ (small : (i : ℕ) → getD s i 0 < 256) {u : ℕ} (end : u ≡ endOf deletions) where
+        used-is : length (laid (parts (contents s))) ≡ u
+        used-is =
+            omega (
+              arith,
+              laid-is,
+              ap (λ (c : Catalogue). length (c .held)) contents-are,
+              ap (λ (c : Catalogue). length (c .deletions)) contents-are,
+              entries-length held s,
+              entries-length deletions s,
+              counts .0,
+              counts .1,
+              ap endOf (S .deletions-are),
+            )
 
-            pub rest-used : allZero (take (46596 - u) (drop u s)) ≡ false → PairsOf s 513
-            rest-used z = sym (rw (in-order-is ∙ z))
+        front : laid (parts (contents s)) ++ drop (length (laid (parts (contents s)))) s ≡ s
+        unfolding contents said
+        front =
+            ap (λ (n : ℕ). laid (parts (contents s)) ++ drop n s) laid-is
+            ∙ laid-said (parts empty) s small (omega (arith, laid-is, used-is, deletions-end, S .full, room-size))
+
+        in-order-is : inOrder s ≡ allZero (take (46596 - u) (drop u s))
+        unfolding inOrder encode roomOf
+        in-order-is =
+            let rest : take (46596 - u) (drop u s) ≡ drop (length (laid (parts (contents s)))) s =
+            take-all (46596 - u) (drop u s) (simp length-drop (omega (arith, S .full, room-size))) ∙ ap (λ (n : ℕ). drop n s) (sym used-is) in
+            rw (good-contents, ← S .full) (zero-rest (laid (parts (contents s))) s front ∙ ap allZero (sym rest))
+
+        -- what is left to test is that the rest is zero
+        pub named-pairs : {z : Bool} → z ≡ allZero (take (46596 - u) (drop u s)) → PairsOf s (pick z (deletions .count + k) 513)
+        named-pairs e = rw (e, ← in-order-is, named-is)
 
 -- ---- the first bytes of a longer room
 
@@ -218,7 +193,7 @@ module _ (r : List ℕ) (long : 46596 ≤ length r) where
   pub front-length : length (take (46596 - 0) (drop 0 r)) ≡ roomSize
   front-length = ap length front-is ∙ length-take-le roomSize r (omega (arith, room-size))
 
-  module _ (n : ℕ) (counted : PairsOf (take (46596 - 0) (drop 0 r)) n) where
+  module _ {n : ℕ} (counted : PairsOf (take (46596 - 0) (drop 0 r)) n) where
     front-counted : (b : Bool) → inOrder (take roomSize r) ≡ b → n ≡ pick b (named (contents (take roomSize r))) 513
     front-counted b e = subst (λ (s : List ℕ). PairsOf s n) front-is counted ∙ ap (λ (t : Bool). pick t (named (contents (take roomSize r))) 513) e
 

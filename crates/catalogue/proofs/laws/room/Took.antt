@@ -1,9 +1,8 @@
 -- What taking a line answers and counts, from what the code found and decided.
 use Prim.Native.Nat.{ℕ, _≤_}
-use mathlib.Core.Path.{_≡_, refl, sym, _∙_, ap, ap₂, subst}
-use mathlib.Core.Logic.{_⊎_, inl, inr}
+use mathlib.Core.Path.{_≡_, refl, sym, _∙_, ap, subst}
 use mathlib.Core.Bool.{Bool, true, false}
-use mathlib.Core.List.{List, []}
+use mathlib.Core.List.{List}
 use native.Mathlib.Omega.{arith}
 use lib.Dec.{eqb}
 use lib.ListN.{getD}
@@ -21,9 +20,9 @@ use Rattle.catalogue.specs.declared.take.Deed.the-variants.{Leave, Hold,
 use Rattle.catalogue.specs.declared.take.Notice.{Notice}
 use Rattle.catalogue.specs.declared.take.Notice.the-variants.{Event, Delete, Blank}
 use Rattle.catalogue.specs.declared.take.Findings.{Findings}
-use Rattle.catalogue.specs.declared.take.Taken.{Taken}
+use Rattle.catalogue.specs.declared.take.Receipt.{Receipt}
 use Rattle.catalogue.specs.Line.{Acceptable, event, delete, blank, refused, kindOf, kind, refusedBy, refusedAt, key, deletionKey}
-use Rattle.catalogue.specs.Catalogue.{named}
+use Rattle.catalogue.specs.Catalogue.{Catalogue, named}
 use Rattle.catalogue.specs.Taking.{decide, limited, deedOf, done, step}
 use Rattle.catalogue.specs.Room.{contents, roomAfter}
 use Rattle.catalogue.specs.Ordered.{Ordered}
@@ -34,7 +33,7 @@ use Rattle.catalogue.proofs.laws.step.Names.{held-named, deletion-named
 use Rattle.catalogue.proofs.laws.step.Count.{Changes, named-leave, named-known, named-new}
 use Rattle.catalogue.proofs.laws.step.Decide.{deed-refused}
 use Rattle.catalogue.proofs.laws.room.View.{view-good, call-is, room-is, ordered-after, after-contents}
-use Rattle.catalogue.proofs.laws.room.Found.{known-decides}
+use Rattle.catalogue.proofs.laws.room.Found.{searched, known-decides}
 use Rattle.catalogue.proofs.laws.room.Carry.{left}
 
 -- ---- the kind of the line that was read
@@ -64,47 +63,37 @@ module _ (l : List ℕ) (r : LineRead) (e : r ≡ lineOf (readLine l)) where
 
 -- ---- a room in order
 
-module _ (r : List ℕ) (o : Ordered r) (l : List ℕ) where
+-- the answer of a deed is the answer of the call
+done-answer : (e : Deed) (c : Catalogue) (l : List ℕ) → done e c l .answer ≡ answered e
+unfolding done
+done-answer (Leave n) c l = refl
+done-answer (Hold n) c l = refl
+done-answer (Note v) c l = refl
+done-answer (Wipe v) c l = refl
+
+module _ {r : List ℕ} (o : Ordered r) where
   pub few-named : named (contents r) ≤ 512
   few-named = view-good r o .few
 
-  -- the answer of a deed is the answer of the call
-  done-answer : (e : Deed) → done e (contents r) l .answer ≡ answered e
-  unfolding done
-  done-answer (Leave n) = refl
-  done-answer (Hold n) = refl
-  done-answer (Note v) = refl
-  done-answer (Wipe v) = refl
-
-  module _ (f : Findings) (K : Known r l f) where
+  module _ {l : List ℕ} {f : Findings} (K : Known r l f) where
     -- the code's decision is the definition's
-    pub decided : (n : Notice) → kind l ≡ noticeKind n → (m : ℕ) → m ≡ named (contents r) → (e g : Deed)
+    pub decided : (n : Notice) → kind l ≡ noticeKind n → {m : ℕ} → m ≡ named (contents r) → {e g : Deed}
         → e ≡ decide (noticeKind n) l (entryOf (entriesOf (f .deletions) r) (f .in_deletions)) (entryOf (entriesOf (f .held) r) (f .in_held))
         → g ≡ limited m (entryOf (entriesOf (f .deletions) r) (f .in_deletions)) (entryOf (entriesOf (f .held) r) (f .in_held)) e
         → g ≡ deedOf (contents r) l
-    decided n k m p e g q h =
-        h ∙ ap₂ (λ (x : ℕ) (y : Deed). limited x (entryOf (entriesOf (f .deletions) r) (f .in_deletions)) (entryOf (entriesOf (f .held) r) (f .in_held)) y) p q ∙ known-decides r o l f K n k
-
-    -- where the pair is in no held line, the deletions were searched
-    searched : (i : ℕ) → f .in_held ≡ Missing i → Sought deletionKey (key l) (contents r .deletions) (f .in_deletions)
-    searched i p = by-found (K .in-deletions)
-      where
-        by-found : (Sought deletionKey (key l) (contents r .deletions) (f .in_deletions)) ⊎ ((kind l ≡ event) × IsFound (f .in_held) × (f .in_deletions ≡ Missing 0)) → Sought deletionKey (key l) (contents r .deletions) (f .in_deletions)
-        by-found (inl s) = s
-        by-found (inr u) = absurd (subst IsFound p (u .1))
+    decided n k p q h = rw (h, p, q) (known-decides r o l f K n k)
 
     one-more : Changes (deedOf (contents r) l) → (h d : Seek) → f .in_held ≡ h → f .in_deletions ≡ d → oneMore h d (named (contents r)) ≡ named (step (contents r) l .after)
     one-more c (Found i) d p q =
-        let s : Sought key (key l) (contents r .held) (Found i) = subst (Sought key (key l) (contents r .held)) p (K .in-held) in
-        sym (named-known (contents r) l (view-good r o) (held-named (contents r) (key l) (getD (contents r .held) i []) (found-find key (key l) (contents r .held) i s)))
-    one-more c (Missing i) (Found j) p q =
-        let s : Sought deletionKey (key l) (contents r .deletions) (Found j) = subst (Sought deletionKey (key l) (contents r .deletions)) q (searched i p) in
-        sym (named-known (contents r) l (view-good r o) (deletion-named (contents r) (key l) (getD (contents r .deletions) j []) (found-find deletionKey (key l) (contents r .deletions) j s)))
-    one-more c (Missing i) (Missing j) p q =
-        let s : Sought key (key l) (contents r .held) (Missing i) = subst (Sought key (key l) (contents r .held)) p (K .in-held) in
-        let t : Sought deletionKey (key l) (contents r .deletions) (Missing j) = subst (Sought deletionKey (key l) (contents r .deletions)) q (searched i p) in
-        sym (named-new (contents r) l (view-good r o) (missing-find deletionKey (key l) (contents r .deletions) (view-good r o .deletion-ascends) j t)
-        (missing-find key (key l) (contents r .held) (view-good r o .held-ascends) i s) c)
+        sym (named-known (contents r) l (view-good r o) (held-named (contents r) (key l) _ (found-find key (key l) (contents r .held) i (rw p at (K .in-held)))))
+    one-more c (Missing i) d p q = unheld d q (searched r o l f K (λ (e : kind l ≡ event) (w : IsFound (f .in_held)). subst IsFound p w))
+      where
+        unheld : (d : Seek) → f .in_deletions ≡ d → Sought deletionKey (key l) (contents r .deletions) (f .in_deletions) → oneMore (Missing i) d (named (contents r)) ≡ named (step (contents r) l .after)
+        unheld (Found j) q s =
+            sym (named-known (contents r) l (view-good r o) (deletion-named (contents r) (key l) _ (found-find deletionKey (key l) (contents r .deletions) j (rw q at s))))
+        unheld (Missing j) q s =
+            sym (named-new (contents r) l (view-good r o) (missing-find deletionKey (key l) (contents r .deletions) (view-good r o .deletion-ascends) j (rw q at s))
+            (missing-find key (key l) (contents r .held) (view-good r o .held-ascends) i (rw p at (K .in-held))) c)
 
     named-by : (e : Deed) → deedOf (contents r) l ≡ e → namedAfter e (f .in_held) (f .in_deletions) (named (contents r)) ≡ named (step (contents r) l .after)
     named-by (Leave m) p = sym (named-leave (contents r) l m p)
@@ -113,30 +102,21 @@ module _ (r : List ℕ) (o : Ordered r) (l : List ℕ) where
     named-by (Wipe v) p = one-more (λ n q. let z : _≡_ {A = ℕ} 0 1 = cc in omega arith) (f .in_held) (f .in_deletions) refl refl
 
     -- an acceptable line, taken
-    pub took : Acceptable l → (e : Deed) → e ≡ deedOf (contents r) l → (m : ℕ) → m ≡ named (contents r) → (after : List ℕ) → after ≡ roomAfter r l → (t : Taken)
+    pub took : Acceptable l → {e : Deed} → e ≡ deedOf (contents r) l → {m : ℕ} → m ≡ named (contents r) → {after : List ℕ} → after ≡ roomAfter r l → (t : Receipt)
         → t .call ≡ record { number = answered e; column = 0 } → t .named ≡ namedAfter e (f .in_held) (f .in_deletions) m → Took r l after t
     unfolding kind step
-    took a e p m q after w t u v =
-        let answers : answered e ≡ step (contents r) l .answer = sym (done-answer e) ∙ ap (λ (x : Deed). done x (contents r) l .answer) p in
+    took a {e} p q {after} w t u v =
+        let answers : answered e ≡ step (contents r) l .answer = sym (done-answer e (contents r) l) ∙ ap (λ (x : Deed). done x (contents r) l .answer) p in
         record {
-          call-is =
-              u ∙ ap₂ (λ (x y : ℕ). record { number = x; column = y }) answers (sym (at-zero (readLine l) a)) ∙ sym (call-is r o l);
+          call-is = rw (u, answers, call-is r o l, at-zero (readLine l) a);
           room-is = w;
-          ordered = subst Ordered (sym w) (ordered-after r o l);
-          named-are =
-              v ∙ ap (namedAfter e (f .in_held) (f .in_deletions)) q ∙ named-by e (sym p) ∙ ap named (sym (after-contents r o l)) ∙ ap (λ (x : List ℕ). named (contents x)) (sym w);
+          ordered = rw w (ordered-after r o l);
+          named-are = rw (v, q, w, after-contents r o l) (named-by e (sym p));
         }
 
   -- a refused line
-  pub took-refused : (n k : ℕ) → readLine l ≡ refusal n k → (m : ℕ) → m ≡ named (contents r) → (t : Taken) → t .call ≡ record { number = n; column = k } → t .named ≡ m → Took r l r t
+  pub took-refused : (l : List ℕ) {n k : ℕ} → readLine l ≡ refusal n k → {m : ℕ} → m ≡ named (contents r) → (t : Receipt) → t .call ≡ record { number = n; column = k } → t .named ≡ m → Took r l r t
   unfolding kind step done
-  took-refused n k e m q t u v =
+  took-refused l {n} e q t u v =
       let d : deedOf (contents r) l ≡ Leave n = deed-refused (contents r) l (ap kindOf e) ∙ ap (λ (a : Answer Message). Leave (refusedBy a)) e in
-      let s : r ≡ roomAfter r l = left r o l n d in
-      record {
-        call-is =
-            u ∙ ap₂ (λ (x y : ℕ). record { number = x; column = y }) (sym (ap (λ (x : Deed). done x (contents r) l .answer) d)) (sym (ap refusedAt e)) ∙ sym (call-is r o l);
-        room-is = s;
-        ordered = o;
-        named-are = v ∙ q;
-      }
+      record { call-is = rw (u, call-is r o l, d, e); room-is = left o l d; ordered = o; named-are = v ∙ q }

@@ -9,7 +9,6 @@ use Rattle.columns.specs.Answer.{tooShort}
 use Rattle.formats.specs.Cube.{readLine}
 use Rattle.formats.specs.Record.{sameBytes}
 use Rattle.formats.proofs.laws.Record.{same-is}
-use Rattle.catalogue.specs.declared.Call.{Call}
 use Rattle.catalogue.specs.Answers.{notInOrder}
 use Rattle.catalogue.specs.Line.{refusedAt}
 use Rattle.catalogue.specs.Catalogue.{Catalogue}
@@ -37,28 +36,6 @@ module _ {A : Type 0} (r : List ℕ) (f : ℕ → A) (a : A) where
   unfolding checked
   checked-fine o = simp (le-leb roomSize (length r) (o .long), o .fine)
 
--- a call on a room that is too short or out of order
-module _ (r l : List ℕ) where
-  refusing : ℕ → Call
-  refusing n = record { number = n; column = 0 }
-
-  fine : Call
-  fine = record { number = step (contents (take roomSize r)) l .answer; column = refusedAt (readLine l) }
-
-  pub call-short : length r < roomSize → callOf r l ≡ record { number = tooShort; column = 0 }
-  unfolding refusing fine
-  call-short h = checked-short r refusing fine h
-
-  pub room-short : length r < roomSize → roomAfter r l ≡ r
-  room-short h = checked-short r (λ (n : ℕ). r) (encode (step (contents (take roomSize r)) l .after) ++ drop roomSize r) h
-
-  pub call-disorder : roomSize ≤ length r → inOrder (take roomSize r) ≡ false → callOf r l ≡ record { number = notInOrder; column = 0 }
-  unfolding refusing fine
-  call-disorder h e = checked-disorder r refusing fine h e
-
-  pub room-disorder : roomSize ≤ length r → inOrder (take roomSize r) ≡ false → roomAfter r l ≡ r
-  room-disorder h e = checked-disorder r (λ (n : ℕ). r) (encode (step (contents (take roomSize r)) l .after) ++ drop roomSize r) h e
-
 module _ (r : List ℕ) (o : Ordered r) where
   front-good : Good (contents (take roomSize r))
   unfolding inOrder
@@ -84,14 +61,10 @@ module _ (r : List ℕ) (o : Ordered r) where
 
   -- a call
   pub call-is : (l : List ℕ) → callOf r l ≡ record { number = step (contents r) l .answer; column = refusedAt (readLine l) }
-  call-is l =
-      checked-fine r (λ (n : ℕ). record { number = n; column = 0 }) (record { number = step (contents (take roomSize r)) l .answer; column = refusedAt (readLine l) }) o
-      ∙ ap (λ (c : Catalogue). record { number = step c l .answer; column = refusedAt (readLine l) }) (sym same-contents)
+  call-is l = rw (checked-fine, ← same-contents)
 
   pub room-is : (l : List ℕ) → roomAfter r l ≡ encode (step (contents r) l .after) ++ drop roomSize r
-  room-is l =
-      checked-fine r (λ (n : ℕ). r) (encode (step (contents (take roomSize r)) l .after) ++ drop roomSize r) o
-      ∙ ap (λ (c : Catalogue). encode (step c l .after) ++ drop roomSize r) (sym same-contents)
+  room-is l = rw (checked-fine, ← same-contents)
 
   -- it stays in order
   pub ordered-after : (l : List ℕ) → Ordered (roomAfter r l)

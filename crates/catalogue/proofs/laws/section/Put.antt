@@ -1,16 +1,13 @@
 -- Rows stay of one width where a row is put in or removed, and how many there are then.
-use Prim.Native.Nat.{ℕ, suc}
-use mathlib.Core.Path.{_≡_, _∙_, ap}
+use Prim.Native.Nat.{ℕ}
+use mathlib.Core.Path.{_≡_}
 use mathlib.Core.List.{List, [], _∷_}
 use lib.ListN.{length}
-use Rattle.catalogue.specs.declared.section.Seek.the-variants.{Missing}
-use Rattle.catalogue.specs.Assoc.{put, remove, AscFrom}
-use Rattle.catalogue.specs.Entries.{Sought}
-use Rattle.catalogue.proofs.laws.assoc.Tri.{less, same, more, tri, eq, ne, eq?}
+use Rattle.catalogue.specs.Assoc.{put, remove}
+use Rattle.formats.proofs.laws.Tri.{less, same, more, tri}
+use Rattle.catalogue.proofs.laws.assoc.Tri.{eq, ne, eq?}
 use Rattle.catalogue.proofs.laws.assoc.Assoc.{put-less, put-same, put-more, remove-here, remove-there}
 use Rattle.catalogue.proofs.laws.section.Wide.{Wide}
-use Rattle.catalogue.proofs.laws.section.RowMoves.{splice-length}
-use Rattle.catalogue.proofs.laws.section.Seek.{put-missing}
 
 module _ (f : List ℕ → ℕ) (w : ℕ) where
   pub put-wide : (l : List ℕ) (xs : List (List ℕ)) → length l ≡ w → Wide w xs → Wide w (put f l xs)
@@ -31,6 +28,3 @@ module _ (f : List ℕ → ℕ) (w : ℕ) where
         | eq p ↦ rw (remove-here f x xs j p) (remove-wide j xs (k .1))
         | ne p ↦ rw (remove-there f x xs j p) (k .0, remove-wide j xs (k .1))
       ]
-
-pub put-missing-length : (f : List ℕ → ℕ) (l : List ℕ) (xs : List (List ℕ)) (i : ℕ) → AscFrom f 0 xs → Sought f (f l) xs (Missing i) → length (put f l xs) ≡ suc (length xs)
-put-missing-length f l xs i a s = ap length (put-missing f l xs i a s .0) ∙ splice-length i xs l

@@ -20,10 +20,6 @@ splice-length zero xs l = refl
 splice-length (suc j) [] l = refl
 splice-length (suc j) (x ∷ xs) l = ap suc (splice-length j xs l)
 
-flat-splice : (j : ℕ) (xs : List (List ℕ)) (l : List ℕ) → flat (take j xs ++ l ∷ drop j xs) ≡ flat (take j xs) ++ (l ++ flat (drop j xs))
-unfolding flat
-flat-splice j xs l = flat-append (take j xs) (l ∷ drop j xs)
-
 flat-parts : (j : ℕ) (xs : List (List ℕ)) → flat xs ≡ flat (take j xs) ++ flat (drop j xs)
 flat-parts j xs = ap flat (sym (take-append-drop j xs)) ∙ flat-append (take j xs) (drop j xs)
 
@@ -74,11 +70,7 @@ cut-parts A x B T at used w ha hx hu =
     let d2 : drop (at + n + w) ((A ++ B) ++ D) ≡ T =
     sym (drop-drop w (at + n) ((A ++ B) ++ D)) ∙ ap (drop w) (drop-at (A ++ B) D (at + n) k) ∙ drop-drop w (at + n) r
     ∙ ap (drop (at + n + w)) (ap (λ (u : List ℕ). A ++ u) (sym (append-assoc x B T)) ∙ sym (append-assoc A (x ++ B) T)) ∙ drop-at (A ++ (x ++ B)) T (at + n + w) j in
-    ap₂ (λ (u v : ℕ). paste (paste r at (drop (at + w) r) u) v (zeros w) w) e0 e1
-    ∙ ap (λ (u : List ℕ). paste u (at + n) (zeros w) w) p1
-    ∙ ap₂ (λ (u v : List ℕ). (u ++ take w (zeros w)) ++ v) t1 d2
-    ∙ ap (λ (u : List ℕ). ((A ++ B) ++ u) ++ T) z1
-    ∙ simp append-assoc
+    rw (e0, e1, p1, t1, d2, z1) (simp append-assoc)
 
 -- a count, written over a count
 count-over : (P Q : List ℕ) (at n m : ℕ) → length P ≡ at → counted (P ++ (count n ++ Q)) at m ≡ P ++ (count m ++ Q)
@@ -109,7 +101,7 @@ module _ (P : List ℕ) (xs : List (List ℕ)) (Q z : List ℕ) (q w i : ℕ) (w
   pub insert-row : (l : List ℕ) → length l ≡ w → i ≤ length xs → w ≤ q
       → counted (spliced (lay P xs Q q z) (length P + 2 + w * i) (length P + 2 + w * length xs + length Q) l) (length P) (suc (length xs))
       ≡ lay P (take i xs ++ l ∷ drop i xs) Q (q - w) z
-  unfolding lay
+  unfolding lay flat
   insert-row l hl h hq =
       let n : ℕ = length xs in
       let A : List ℕ = P ++ (count n ++ flat (take i xs)) in
@@ -119,10 +111,7 @@ module _ (P : List ℕ) (xs : List (List ℕ)) (Q z : List ℕ) (q w i : ℕ) (w
       let e2 : spliced (A ++ (B ++ (zeros q ++ z))) (length P + 2 + w * i) (length P + 2 + w * n + length Q) l ≡ A ++ (l ++ T) =
       splice-parts A B l z (length P + 2 + w * i) (length P + 2 + w * n + length Q) q (front-long h) (simp length-append (omega (arith, rear-long h))) (omega arith) in
       let e3 : A ++ (l ++ T) ≡ P ++ (count n ++ (flat (take i xs) ++ (l ++ T))) = simp append-assoc in
-      ap (λ (r : List ℕ). counted (spliced r (length P + 2 + w * i) (length P + 2 + w * n + length Q) l) (length P) (suc n)) e1
-      ∙ ap (λ (r : List ℕ). counted r (length P) (suc n)) (e2 ∙ e3)
-      ∙ count-over P (flat (take i xs) ++ (l ++ T)) (length P) n (suc n) refl
-      ∙ rw (splice-length i xs l, flat-splice i xs l, hl) (simp append-assoc)
+      rw (e1, e2, e3, count-over P (flat (take i xs) ++ (l ++ T)) (length P) n (suc n) refl, splice-length i xs l, flat-append (take i xs) (l ∷ drop i xs), hl) (simp append-assoc)
 
   -- the row at i, taken apart
   row-split : i < length xs → flat xs ≡ flat (take i xs) ++ (getD xs i [] ++ flat (drop (suc i) xs))
@@ -143,9 +132,7 @@ module _ (P : List ℕ) (xs : List (List ℕ)) (Q z : List ℕ) (q w i : ℕ) (w
       let B : List ℕ = flat (drop (suc i) xs) ++ (Q ++ (zeros q ++ z)) in
       let e1 : P ++ (count n ++ (flat xs ++ (Q ++ (zeros q ++ z)))) ≡ A ++ (getD xs i [] ++ B) = rw (row-split h) (simp append-assoc) in
       let e2 : flat (set xs i l) ≡ flat (take i xs) ++ (l ++ flat (drop (suc i) xs)) = ap flat (set-split xs i l h) ∙ flat-append (take i xs) (l ∷ drop (suc i) xs) in
-      ap (λ (r : List ℕ). paste r (length P + 2 + w * i) l w) e1
-      ∙ paste-parts A (getD xs i []) B l (length P + 2 + w * i) w (front-long (omega arith)) (row-wide i xs ws h) hl
-      ∙ rw (e2, length-set xs i l) (simp append-assoc)
+      rw (e1, paste-parts A (getD xs i []) B l (length P + 2 + w * i) w (front-long (omega arith)) (row-wide i xs ws h) hl, e2, length-set xs i l) (simp append-assoc)
 
   pub rest-length : i < length xs → length (take i xs ++ drop (suc i) xs) ≡ length xs - 1
   rest-length h = simp (length-append, length-take, length-drop) (omega arith)
@@ -172,8 +159,4 @@ module _ (P : List ℕ) (xs : List (List ℕ)) (Q z : List ℕ) (q w i : ℕ) (w
       cut-parts A x B T at used w (front-long (omega arith)) hx (simp length-append (omega arith)) in
       let e3 : A ++ (B ++ (zeros w ++ T)) ≡ P ++ (count n ++ (flat (take i xs) ++ (B ++ (zeros w ++ T)))) = simp append-assoc in
       let e4 : zeros w ++ T ≡ zeros (w + q) ++ z = sym (append-assoc (zeros w) (zeros q) z) ∙ ap (λ (u : List ℕ). u ++ z) (replicate-append-replicate w q 0) in
-      ap (λ (r : List ℕ). counted (cutOut r at used w) (length P) (n - 1)) e1
-      ∙ ap (λ (r : List ℕ). counted r (length P) (n - 1)) (e2 ∙ e3)
-      ∙ count-over P (flat (take i xs) ++ (B ++ (zeros w ++ T))) (length P) n (n - 1) refl
-      ∙ ap (λ (u : List ℕ). P ++ (count (n - 1) ++ (flat (take i xs) ++ (B ++ u)))) e4
-      ∙ rw (rest-length h, flat-append (take i xs) (drop (suc i) xs)) (simp append-assoc)
+      rw (e1, e2, e3, count-over P (flat (take i xs) ++ (B ++ (zeros w ++ T))) (length P) n (n - 1) refl, e4, rest-length h, flat-append (take i xs) (drop (suc i) xs)) (simp append-assoc)

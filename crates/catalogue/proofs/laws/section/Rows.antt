@@ -74,7 +74,11 @@ module _ (of : Section) (s : List ℕ) where
         ∙ key-drop (of .source) (of .identifier) (of .at + 2 + of .size * i) s)
 
   -- the entry as a part of the bytes
-  pub entry-part : (i : ℕ) → i < of .count → (w : ℕ) → of .size ≡ w → (at : ℕ) → at ≡ of .at + 2 + of .size * i → take (at + w - at) (drop at s) ≡ getD (entriesOf of s) i []
-  entry-part i h w e at p =
-      let q : at + w - at ≡ of .size = omega arith in
-      ap₂ (λ (m n : ℕ). take m (drop n s)) q p ∙ sym (entry-is i h)
+  module _ (i : ℕ) (h : i < of .count) {w : ℕ} (e : of .size ≡ w) {at : ℕ} (p : at ≡ of .at + 2 + of .size * i) where
+    pub entry-end : Inside of s → at + w ≤ length s
+    entry-end f = omega (arith, entry-fits f i h)
+
+    pub entry-part : take (at + w - at) (drop at s) ≡ getD (entriesOf of s) i []
+    entry-part =
+        let q : at + w - at ≡ of .size = omega arith in
+        ap₂ (λ (m n : ℕ). take m (drop n s)) q p ∙ sym (entry-is i h)

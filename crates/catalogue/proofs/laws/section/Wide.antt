@@ -1,7 +1,7 @@
 -- Rows of one width, and sections that fit.
 use Prim.Native.Nat.{ℕ, zero, suc, _≤_}
 use mathlib.Core.Path.{_≡_}
-use mathlib.Core.List.{List, [], _∷_, _++_, List·Memᴰ, List·Memᴰ·head, List·Memᴰ·tail}
+use mathlib.Core.List.{List, [], _∷_, List·Memᴰ, List·Memᴰ·head, List·Memᴰ·tail}
 use lib.ListN.{length, take, drop}
 use mathlib.Core.Path.{refl}
 use Rattle.catalogue.specs.Section.{Part}
@@ -29,7 +29,3 @@ pub wide-drop : (w j : ℕ) (xs : List (List ℕ)) → Wide w xs → Wide w (dro
 wide-drop w zero xs h = h
 wide-drop w (suc j) [] h = tt
 wide-drop w (suc j) (x ∷ xs) h = wide-drop w j xs (h .1)
-
-pub wide-append : (w : ℕ) (xs ys : List (List ℕ)) → Wide w xs → Wide w ys → Wide w (xs ++ ys)
-wide-append w [] ys h k = k
-wide-append w (x ∷ xs) ys h k = (h .0, wide-append w xs ys (h .1) k)

@@ -59,21 +59,38 @@ module _ (deletions : List (List ℕ)) (h : List ℕ) where
   unfolding heldOk isEvent
   held-ok-join e f = simp (e, above-true (find deletionKey (key h) deletions) h f)
 
-pub good-of : (c : Catalogue) → good c ≡ true → Good c
+-- the five tests
+pub record Tests (c : Catalogue) : Type 0 where
+  pub held-ascends : ascends key 0 (c .held) ≡ true
+  pub deletions-ascend : ascends deletionKey 0 (c .deletions) ≡ true
+  pub held-fine : every (heldOk (c .deletions)) (c .held) ≡ true
+  pub deletions-fine : every deletionOk (c .deletions) ≡ true
+  pub few-named : named c ≤ 512
+
+pub tests-of : (c : Catalogue) → good c ≡ true → Tests c
 unfolding good
-good-of c g =
+tests-of c g =
     let r = and-both (ascends key 0 (c .held) && ascends deletionKey 0 (c .deletions)) ((every (heldOk (c .deletions)) (c .held) && every deletionOk (c .deletions)) && leb (named c) 512) g in
     let a = and-both (ascends key 0 (c .held)) (ascends deletionKey 0 (c .deletions)) (r .0) in
     let s = and-both (every (heldOk (c .deletions)) (c .held) && every deletionOk (c .deletions)) (leb (named c) 512) (r .1) in
     let e = and-both (every (heldOk (c .deletions)) (c .held)) (every deletionOk (c .deletions)) (s .0) in
+    record { held-ascends = a .0; deletions-ascend = a .1; held-fine = e .0; deletions-fine = e .1; few-named = leb-true (named c) 512 (s .1) }
+
+pub tests-good : (c : Catalogue) → Tests c → good c ≡ true
+unfolding good
+tests-good c t = simp (t .held-ascends, t .deletions-ascend, t .held-fine, t .deletions-fine, le-leb (named c) 512 (t .few-named))
+
+pub good-of : (c : Catalogue) → good c ≡ true → Good c
+good-of c g =
+    let t = tests-of c g in
     record {
-      held-ascends = asc-of key 0 (c .held) (a .0);
-      deletion-ascends = asc-of deletionKey 0 (c .deletions) (a .1);
+      held-ascends = asc-of key 0 (c .held) (t .held-ascends);
+      deletion-ascends = asc-of deletionKey 0 (c .deletions) (t .deletions-ascend);
       held-fine =
           λ (k : ℕ) (h : List ℕ) (q : find key k (c .held) ≡ some h).
-          held-ok-parts (c .deletions) h k (find-key key (c .held) k h q) (every-find (heldOk (c .deletions)) key (c .held) k h (e .0) q);
-      deletion-fine = λ (k : ℕ) (d : List ℕ) (q : find deletionKey k (c .deletions) ≡ some d). every-find deletionOk deletionKey (c .deletions) k d (e .1) q;
-      few = leb-true (named c) 512 (s .1);
+          held-ok-parts (c .deletions) h k (find-key key (c .held) k h q) (every-find (heldOk (c .deletions)) key (c .held) k h (t .held-fine) q);
+      deletion-fine = λ (k : ℕ) (d : List ℕ) (q : find deletionKey k (c .deletions) ≡ some d). every-find deletionOk deletionKey (c .deletions) k d (t .deletions-fine) q;
+      few = t .few-named;
     }
 
 -- ---- a catalogue in order
@@ -90,15 +107,14 @@ module _ (c : Catalogue) (G : Good c) where
   deletion-at d m = G .deletion-fine (deletionKey d) d (found-self deletionKey (c .deletions) 0 d (G .deletion-ascends) m .1)
 
   pub good-back : good c ≡ true
-  unfolding good
   good-back =
-      simp (
-        ascends-true key 0 (c .held) (G .held-ascends),
-        ascends-true deletionKey 0 (c .deletions) (G .deletion-ascends),
-        every-true (heldOk (c .deletions)) (c .held) (λ (h : List ℕ) (m : List·Memᴰ h (c .held)). let w = held-at h m in held-ok-join (c .deletions) h (w .0) (w .1)),
-        every-true deletionOk (c .deletions) deletion-at,
-        le-leb (named c) 512 (G .few),
-      )
+      tests-good c (record {
+        held-ascends = ascends-true key 0 (c .held) (G .held-ascends);
+        deletions-ascend = ascends-true deletionKey 0 (c .deletions) (G .deletion-ascends);
+        held-fine = every-true (heldOk (c .deletions)) (c .held) (λ (h : List ℕ) (m : List·Memᴰ h (c .held)). let w = held-at h m in held-ok-join (c .deletions) h (w .0) (w .1));
+        deletions-fine = every-true deletionOk (c .deletions) deletion-at;
+        few-named = G .few;
+      })
 
   held-few : length (c .held) ≤ named c
   held-few =

@@ -3,26 +3,24 @@ use borrow.Author.Needs.{needs}
 use native.Mathlib.Omega.{arith}
 use Rattle.catalogue.proofs.look_up.look_in.Statement.{statement}
 use Rattle.catalogue.proofs.look_up.look_in.Tie as tie
-use mathlib.Core.Path.{_∙_, sym, subst}
-use Rattle.catalogue.specs.declared.section.Section.{Section}
-use Rattle.catalogue.specs.Assoc.{AscFrom}
+use mathlib.Core.Path.{_≡_, refl, _∙_}
+use Rattle.catalogue.specs.Room.{contents}
+use Rattle.catalogue.specs.LookUp.{lookedIn}
 use Rattle.catalogue.specs.Keys.{keyNumber}
-use Rattle.catalogue.specs.Entries.{entriesOf, entryKey, Inside}
 use Rattle.catalogue.proofs.laws.room.Encode.{room-size}
-use Rattle.catalogue.proofs.laws.room.Places.{held-inside, held-asc}
-use Rattle.catalogue.proofs.laws.room.LookUp.{looked-found, looked-missing}
+use Rattle.catalogue.proofs.laws.room.Found.{held-open, held-sought}
+use Rattle.catalogue.proofs.laws.room.LookUp.{seen, seen-is}
+
+answer : (c : tie.After-look) → let a = c .before .before .before .args in seen (c .look .result) ≡ lookedIn (contents (a .room .now)) (keyNumber (a .key))
+answer c =
+    let d = c .before .before .before in
+    seen-is (d .args .room .now) (d .pre) (keyNumber (d .args .key)) (c .look .result) (held-sought (d .args .room .now) (d .pre) (c .before .held-in .ensures) refl (c .look .result) (c .look .ensures))
 
 held-in-requires : tie.Need-held-in-requires
-held-in-requires c κs =
-    omega (arith, c .before .pre .long, room-size)
+held-in-requires c κs = omega (arith, c .before .pre .long, room-size)
 
 look-requires : tie.Need-look-requires
-look-requires c κs =
-    let a = c .before .before in
-    let e = sym (c .held-in .ensures) in (
-      subst (λ (x : Section). Inside x (a .args .room .now)) e (held-inside (a .args .room .now) (a .pre)),
-      subst (λ (x : Section). AscFrom (entryKey x) 0 (entriesOf x (a .args .room .now))) e (held-asc (a .args .room .now) (a .pre)),
-    )
+look-requires c κs = let d = c .before .before in held-open (d .args .room .now) (d .pre) (c .held-in .ensures)
 
 enum-known-place : tie.Need-enum-known-place
 enum-known-place c = search needs
@@ -34,16 +32,10 @@ none-requires : tie.Need-none-requires
 none-requires c κs = search needs
 
 returns : tie.Need-returns
-returns c =
-    let a = c .before .before .before .before .before .before in
-    let g = c .before .place .given in
-    looked-found (a .args .room .now) (a .pre) (c .before .before .before .before .held-in .result) (c .before .before .before .before .held-in .ensures) (keyNumber (a .args .key)) (c .before .before .before .look .result) (c .before .before .before .look .ensures) (g .0 .0) (g .1)
+returns c = rw (c .before .place .given .1) at (answer (c .before .before .before))
 
 returns-2 : tie.Need-returns-2
-returns-2 c =
-    let a = c .before .before .before .before .before .before in
-    let g = c .before .enum-told .given in
-    c .none .ensures ∙ looked-missing (a .args .room .now) (a .pre) (c .before .before .before .before .held-in .result) (c .before .before .before .before .held-in .ensures) (keyNumber (a .args .key)) (c .before .before .before .look .result) (c .before .before .before .look .ensures) (g .0 .0) (g .1)
+returns-2 c = c .none .ensures ∙ rw (c .before .enum-told .given .1) at (answer (c .before .before .before))
 
 pub look-in-spec : {M : Type 1} → statement M
 look-in-spec =

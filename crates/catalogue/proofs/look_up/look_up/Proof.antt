@@ -4,18 +4,26 @@ use native.Mathlib.Omega.{arith}
 use Rattle.catalogue.proofs.look_up.look_up.Statement.{statement}
 use Rattle.catalogue.proofs.look_up.look_up.Tie as tie
 use mathlib.Core.Path.{_∙_}
-use Rattle.catalogue.specs.Keys.{keyNumber}
+use Prim.Native.Nat.{ℕ}
+use borrow.Author.Tests.{eq-eqb, ne-eqb}
+use Rattle.catalogue.specs.Ordered.{Ordered}
+use Rattle.catalogue.specs.LookUp.{looked, lookUp}
 use Rattle.catalogue.proofs.laws.room.Encode.{room-size}
 use Rattle.catalogue.proofs.laws.room.Order.{front-length, front-ordered, front-disordered}
-use Rattle.catalogue.proofs.laws.room.LookUp.{look-short, look-disorder, look-source, look-identifier, look-pair}
+use Rattle.catalogue.proofs.laws.room.LookUp.{look-pair}
+use Rattle.catalogue.proofs.laws.room.View.{checked-short, checked-disorder, checked-fine}
+
+in-order : (c : tie.Else2) → Ordered (c .before .before .before .before .before .before .before .args .room .now)
+in-order c = front-ordered (c .before .before .before .before .before .before .before .args .room .now) (c .before .before .before .if1 .left) (c .before .named-pairs .ensures) (c .if2 .left)
 
 none-requires : tie.Need-none-requires
 none-requires c κs = search needs
 
 returns : tie.Need-returns
+unfolding lookUp
 returns c =
-    let a = c .before .before .before .before .before .args in
-    c .none .ensures ∙ look-short (a .room .now) (a .source .now) (a .identifier .now) (omega (arith, c .before .if1 .taken, room-size))
+    let r = c .before .before .before .before .before .args .room .now in
+    rw (checked-short r (λ (n : ℕ). looked n 0) _ (omega (arith, c .before .if1 .taken, room-size))) (c .none .ensures)
 
 sub-named-pairs : tie.Need-sub-named-pairs
 sub-named-pairs c = search needs
@@ -27,45 +35,44 @@ part-named-pairs-end : tie.Need-part-named-pairs-end
 part-named-pairs-end c = search needs
 
 named-pairs-requires : tie.Need-named-pairs-requires
-named-pairs-requires c κs =
-    front-length (c .before .before .before .before .before .args .room .now) (c .before .if1 .left)
+named-pairs-requires c κs = front-length (c .before .before .before .before .before .args .room .now) (c .before .if1 .left)
 
 none-requires-2 : tie.Need-none-requires-2
 none-requires-2 c κs = search needs
 
 returns-2 : tie.Need-returns-2
+unfolding lookUp
 returns-2 c =
-    let a = c .before .before .before .before .before .before .before .before .args in
-    c .none2 .ensures ∙ look-disorder (a .room .now) (a .source .now) (a .identifier .now) (omega (arith, c .before .before .before .before .if1 .left, room-size)) (front-disordered (a .room .now) (c .before .before .before .before .if1 .left) (c .before .before .named-pairs .result) (c .before .before .named-pairs .ensures) (c .before .if2 .taken))
+    let r = c .before .before .before .before .before .before .before .before .args .room .now in
+    let h = c .before .before .before .before .if1 .left in
+    rw (checked-disorder r (λ (n : ℕ). looked n 0) _ (omega (arith, room-size)) (front-disordered r h (c .before .before .named-pairs .ensures) (c .before .if2 .taken))) (c .none2 .ensures)
 
 none-requires-3 : tie.Need-none-requires-3
 none-requires-3 c κs = search needs
 
 returns-3 : tie.Need-returns-3
+unfolding lookUp
 returns-3 c =
-    let a = c .before .before .before .before .before .before .before .before .before .args in
-    c .none3 .ensures ∙ look-source (a .room .now) (a .source .now) (a .identifier .now) (front-ordered (a .room .now) (c .before .before .before .before .before .if1 .left) (c .before .before .before .named-pairs .result) (c .before .before .before .named-pairs .ensures) (c .before .before .if2 .left)) (c .before .if3 .taken)
+    rw (checked-fine _ (λ (n : ℕ). looked n 0) _ (in-order (c .before .before)), ne-eqb _ 2 (c .before .if3 .taken)) (c .none3 .ensures)
 
 none-requires-4 : tie.Need-none-requires-4
 none-requires-4 c κs = search needs
 
 returns-4 : tie.Need-returns-4
+unfolding lookUp
 returns-4 c =
-    let a = c .before .before .before .before .before .before .before .before .before .before .args in
-    c .none4 .ensures ∙ look-identifier (a .room .now) (a .source .now) (a .identifier .now) (front-ordered (a .room .now) (c .before .before .before .before .before .before .if1 .left) (c .before .before .before .before .named-pairs .result) (c .before .before .before .before .named-pairs .ensures) (c .before .before .before .if2 .left)) (c .before .before .if3 .left) (c .before .if4 .taken)
+    rw (checked-fine _ (λ (n : ℕ). looked n 0) _ (in-order (c .before .before .before)), eq-eqb _ 2 (c .before .before .if3 .left), ne-eqb _ 8 (c .before .if4 .taken)) (c .none4 .ensures)
 
 key-by-requires : tie.Need-key-by-requires
 key-by-requires c κs = search needs
 
 look-in-requires : tie.Need-look-in-requires
-look-in-requires c κs =
-    let a = c .before .before .before .before .before .before .before .before .before .before .args in
-    front-ordered (a .room .now) (c .before .before .before .before .before .before .if1 .left) (c .before .before .before .before .named-pairs .result) (c .before .before .before .before .named-pairs .ensures) (c .before .before .before .if2 .left)
+look-in-requires c κs = in-order (c .before .before .before)
 
 returns-5 : tie.Need-returns-5
 returns-5 c =
     let a = c .before .before .before .before .before .before .before .before .before .before .before .args in
-    c .look-in .ensures ∙ look-pair (a .room .now) (a .source .now) (a .identifier .now) (front-ordered (a .room .now) (c .before .before .before .before .before .before .before .if1 .left) (c .before .before .before .before .before .named-pairs .result) (c .before .before .before .before .before .named-pairs .ensures) (c .before .before .before .before .if2 .left)) (c .before .before .before .if3 .left) (c .before .before .if4 .left) (keyNumber (c .before .key-by .result)) (c .before .key-by .ensures)
+    c .look-in .ensures ∙ look-pair (a .room .now) (a .source .now) (a .identifier .now) (in-order (c .before .before .before .before)) (c .before .before .before .if3 .left) (c .before .before .if4 .left) (c .before .key-by .ensures)
 
 pub look-up-spec : {M : Type 1} → statement M
 look-up-spec =

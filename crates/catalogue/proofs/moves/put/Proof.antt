@@ -3,49 +3,39 @@ use borrow.Author.Needs.{needs}
 use native.Mathlib.Omega.{arith}
 use Rattle.catalogue.proofs.moves.put.Statement.{statement}
 use Rattle.catalogue.proofs.moves.put.Tie as tie
-use mathlib.Core.Path.{sym, _∙_, ap, subst}
-use mathlib.Core.List.{List}
-use Prim.Native.Nat.{ℕ, _+_, _≤_, _<_}
-use lib.ListN.{length}
-use lib.Seq.{paste}
-use Rattle.catalogue.specs.declared.section.Seek.{Seek}
-use Rattle.catalogue.specs.Splice.{spliced, counted}
-use Rattle.catalogue.specs.Entries.{placeOf, RoomFor}
+use Prim.Native.Nat.{_≤_, _<_}
 use Rattle.catalogue.specs.Moves.{putIn}
 use Rattle.catalogue.proofs.laws.section.Rows.{row-before, row-inside}
+
+-- the place lies in the section
+found-place : (c : tie.After-seek) → c .seek .given .0 .0 < c .before .before .before .before .args .of .count
+found-place c = rw (c .seek .given .1) at (c .before .before .before .before .pre .5)
+
+new-place : (c : tie.After-seek2) → c .seek2 .given .0 .0 ≤ c .before .before .before .before .args .of .count
+new-place c = rw (c .seek2 .given .1) at (c .before .before .before .before .pre .5)
 
 enum-known-seek : tie.Need-enum-known-seek
 enum-known-seek c = search needs
 
 entry-at-requires : tie.Need-entry-at-requires
-entry-at-requires c κs =
-    let d = c .before .before .before .before .before .before in
-    let g = c .before .before .seek .given in
-    let p : g .0 .0 < d .args .of .count = subst (λ (s : Seek). placeOf s (d .args .of .count)) (g .1) (d .pre .5) in
-    (d .pre .0, omega arith)
+entry-at-requires c κs = (c .before .before .before .before .before .before .pre .0, omega (arith, found-place (c .before .before)))
 
 copy-in-requires : tie.Need-copy-in-requires
 copy-in-requires c κs =
     let d = c .before .before .before .before .before .before .before .before in
-    let g = c .before .before .before .before .seek .given in
-    let p : g .0 .0 < d .args .of .count = subst (λ (s : Seek). placeOf s (d .args .of .count)) (g .1) (d .pre .5) in
-    omega (arith, c .before .entry-at .ensures, row-inside (d .args .of .size) (g .0 .0) (d .args .of .count) p, d .pre .0 .fits, d .pre .4)
+    omega (arith, c .before .entry-at .ensures, row-inside (d .args .of .size) _ (d .args .of .count) (found-place (c .before .before .before .before)), d .pre .0 .fits, d .pre .4)
 
 enum-known-seek-2 : tie.Need-enum-known-seek-2
 enum-known-seek-2 c = search needs
 
 entry-at-requires-2 : tie.Need-entry-at-requires-2
-entry-at-requires-2 c κs =
-    let d = c .before .before .before .before .before .before in
-    let g = c .before .before .seek2 .given in
-    (d .pre .0, subst (λ (s : Seek). placeOf s (d .args .of .count)) (g .1) (d .pre .5))
+entry-at-requires-2 c κs = (c .before .before .before .before .before .before .pre .0, new-place (c .before .before))
 
 splice-requires : tie.Need-splice-requires
 splice-requires c κs =
     let d = c .before .before .before .before .before .before .before .before in
-    let g = c .before .before .before .before .seek2 .given in
-    let p : g .0 .0 ≤ d .args .of .count = subst (λ (s : Seek). placeOf s (d .args .of .count)) (g .1) (d .pre .5) in
-    (omega (arith, c .before .entry-at2 .ensures, row-before (d .args .of .size) (g .0 .0) (d .args .of .count) p, d .pre .1), subst (λ (s : Seek). RoomFor s (d .args .used + length (d .args .entry .now)) (length (d .args .room .now))) (g .1) (d .pre .2))
+    let g = c .before .before .before .before in
+    (omega (arith, c .before .entry-at2 .ensures, row-before (d .args .of .size) _ (d .args .of .count) (new-place g), d .pre .1), rw (g .seek2 .given .1) at (d .pre .2))
 
 add-set-count : tie.Need-add-set-count
 add-set-count c = search needs
@@ -58,13 +48,7 @@ same-length c = search needs
 
 returns : tie.Need-returns
 unfolding putIn
-returns c =
-    let d = c .before .before .before .before .before .before .before .before .before .before .before in
-    let g = c .before .before .before .before .before .before .before .seek .given in
-    let l : List ℕ = d .args .entry .now in
-    c .before .before .copy-in .ensures
-    ∙ ap (λ (at : ℕ). paste (d .args .room .now) at l (length l)) (c .before .before .before .before .entry-at .ensures)
-    ∙ ap (λ (s : Seek). putIn (d .args .room .now) (d .args .of) (d .args .used) s l) (sym (g .1))
+returns c = rw (c .before .before .before .before .before .before .before .seek .given .1, ← c .before .before .before .before .entry-at .ensures) (c .before .before .copy-in .ensures)
 
 same-length-2 : tie.Need-same-length-2
 same-length-2 c = search needs
@@ -72,13 +56,8 @@ same-length-2 c = search needs
 returns-2 : tie.Need-returns-2
 unfolding putIn
 returns-2 c =
-    let d = c .before .before .before .before .before .before .before .before .before .before .before .before .before .before .before .before in
-    let g = c .before .before .before .before .before .before .before .before .before .before .before .before .seek2 .given in
-    let l : List ℕ = d .args .entry .now in
-    c .before .before .set-count .ensures
-    ∙ ap (λ (x : List ℕ). counted x (d .args .of .at) (d .args .of .count + 1)) (c .before .before .before .before .before .before .before .splice .ensures)
-    ∙ ap (λ (at : ℕ). counted (spliced (d .args .room .now) at (d .args .used) l) (d .args .of .at) (d .args .of .count + 1)) (c .before .before .before .before .before .before .before .before .before .entry-at2 .ensures)
-    ∙ ap (λ (s : Seek). putIn (d .args .room .now) (d .args .of) (d .args .used) s l) (sym (g .1))
+    let s = c .before .before .before .before .before .before .before in
+    rw (s .before .before .before .before .before .seek2 .given .1, ← s .before .before .entry-at2 .ensures, ← s .splice .ensures) (c .before .before .set-count .ensures)
 
 pub put-spec : {M : Type 1} → statement M
 put-spec =

@@ -3,10 +3,7 @@ use borrow.Author.Needs.{needs}
 use native.Mathlib.Omega.{arith}
 use Rattle.catalogue.proofs.moves.take_out.Statement.{statement}
 use Rattle.catalogue.proofs.moves.take_out.Tie as tie
-use mathlib.Core.Path.{_∙_, ap}
-use mathlib.Core.List.{List}
-use Prim.Native.Nat.{ℕ, _-_}
-use Rattle.catalogue.specs.Splice.{cutOut, counted}
+use Prim.Native.Nat.{_-_}
 use Rattle.catalogue.specs.Moves.{takenOut}
 use Rattle.catalogue.proofs.laws.section.Rows.{row-inside}
 
@@ -30,10 +27,8 @@ same-length c = search needs
 returns : tie.Need-returns
 unfolding takenOut
 returns c =
-    let d = c .before .before .before .before .before .before .before .before .before .before .before .before in
-    c .before .before .set-count .ensures
-    ∙ ap (λ (x : List ℕ). counted x (d .args .of .at) (d .args .of .count - 1)) (c .before .before .before .before .before .before .before .cut .ensures)
-    ∙ ap (λ (at : ℕ). counted (cutOut (d .args .room .now) at (d .args .used) (d .args .of .size)) (d .args .of .at) (d .args .of .count - 1)) (c .before .before .before .before .before .before .before .before .before .entry-at .ensures)
+    let k = c .before .before .before .before .before .before .before in
+    rw (← k .before .before .entry-at .ensures, ← k .cut .ensures) (c .before .before .set-count .ensures)
 
 pub take-out-spec : {M : Type 1} → statement M
 take-out-spec =

@@ -10,8 +10,7 @@ use Rattle.catalogue.proofs.laws.room.View.{checked-short, checked-diso
 use Rattle.catalogue.proofs.laws.room.Order.{front-length, front-ordered, front-disordered}
 
 returns : tie.Need-returns
-returns c =
-    sym (checked-short (c .before .before .args .room .now) (λ (n : ℕ). n) 0 (omega (arith, c .if1 .taken, room-size)))
+returns c = sym (checked-short (c .before .before .args .room .now) (λ (n : ℕ). n) 0 (omega (arith, c .if1 .taken, room-size)))
 
 sub-named-pairs : tie.Need-sub-named-pairs
 sub-named-pairs c = search needs
@@ -23,18 +22,18 @@ part-named-pairs-end : tie.Need-part-named-pairs-end
 part-named-pairs-end c = search needs
 
 named-pairs-requires : tie.Need-named-pairs-requires
-named-pairs-requires c κs =
-    front-length (c .before .before .before .args .room .now) (c .before .if1 .left)
+named-pairs-requires c κs = front-length (c .before .before .before .args .room .now) (c .before .if1 .left)
 
 returns-2 : tie.Need-returns-2
 returns-2 c =
-    let a = c .before .before .before .before .before .args in
-    sym (checked-fine (a .room .now) (λ (n : ℕ). n) 0 (front-ordered (a .room .now) (c .before .before .before .if1 .left) (c .before .named-pairs .result) (c .before .named-pairs .ensures) (c .if2 .taken)))
+    let r = c .before .before .before .before .before .args .room .now in
+    sym (checked-fine r (λ (n : ℕ). n) 0 (front-ordered r (c .before .before .before .if1 .left) (c .before .named-pairs .ensures) (c .if2 .taken)))
 
 returns-3 : tie.Need-returns-3
 returns-3 c =
-    let a = c .before .before .before .before .before .args in
-    sym (checked-disorder (a .room .now) (λ (n : ℕ). n) 0 (omega (arith, c .before .before .before .if1 .left, room-size)) (front-disordered (a .room .now) (c .before .before .before .if1 .left) (c .before .named-pairs .result) (c .before .named-pairs .ensures) (c .if2 .left)))
+    let r = c .before .before .before .before .before .args .room .now in
+    let h = c .before .before .before .if1 .left in
+    sym (checked-disorder r (λ (n : ℕ). n) 0 (omega (arith, room-size)) (front-disordered r h (c .before .named-pairs .ensures) (c .if2 .left)))
 
 pub check-order-spec : {M : Type 1} → statement M
 check-order-spec =

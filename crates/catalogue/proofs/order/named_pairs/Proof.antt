@@ -3,140 +3,105 @@ use native.Mathlib.Omega.{arith}
 use Rattle.catalogue.proofs.order.named_pairs.Statement.{statement}
 use Rattle.catalogue.proofs.order.named_pairs.Tie as tie
 use mathlib.Core.Path.{sym, _∙_, ap}
-use Prim.Native.Nat.{ℕ}
+use Prim.Native.Nat.{ℕ, _+_}
 use borrow.Author.Tests.{not-true, not-false}
+use Rattle.columns.specs.Answer.{pick}
 use Rattle.catalogue.specs.declared.section.Section.{Section}
 use Rattle.catalogue.proofs.laws.room.Encode.{room-size}
-use Rattle.catalogue.proofs.laws.room.Order.{many-held, held-end, held-within, many-deletions, deletions-end, deletions-within, held-asc, deletions-asc, deletions-mixed, held-mixed, deletions-barred, many-named, named-pairs, rest-used}
+use Rattle.catalogue.proofs.laws.room.Order.{PairsOf, Sections, many-held, held-end, held-within, many-deletions, deletions-end, deletions-within, held-asc, deletions-asc, deletions-mixed, held-mixed, deletions-barred, many-named, named-pairs}
+
+-- what the code has learnt: of the sections, of each test, and of the rest of the room
+sections : (c : tie.Else2) → let h = c .before .before .before .before .before in
+    Sections (h .before .before .args .s .now) (h .held-in .result) (c .before .before .deletions-in .result)
+sections c =
+    let h = c .before .before .before .before .before in
+    record { full = h .before .before .pre; held-is = h .held-in .ensures; deletions-are = c .before .before .deletions-in .ensures; few-held = c .before .before .before .if1 .left; few-deletions = c .if2 .left }
+
+counted : (c : tie.After-zeros) → let d = c .before .before .before .before .before .before .before .before .before .before .before .before .before in
+    PairsOf (d .before .before .before .before .before .args .s .now) (pick (c .zeros .result) (d .deletions-in .result .count + c .before .before .before .before .only-held .result) 513)
+counted c =
+    let o = c .before .before .before .before in
+    let d = o .before .before in
+    let a = d .before .before in
+    let b = a .before .before in
+    named-pairs (sections (b .before)) (o .only-held .ensures .0)
+    (sym (b .ascending .ensures) ∙ not-false (b .ascending .result) (a .before .if3 .left))
+    (sym (a .ascending2 .ensures) ∙ not-false (a .ascending2 .result) (d .before .if4 .left))
+    (sym (d .deletions-allowed .ensures) ∙ not-false (d .deletions-allowed .result) (o .before .if5 .left))
+    (c .before .before .if6 .left) (λ (i : ℕ). omega (arith, b .before .before .before .before .before .before .before .shared-slice-known .given i)) (c .before .end-of .ensures) (c .zeros .ensures)
 
 held-in-requires : tie.Need-held-in-requires
-held-in-requires c κs =
-    omega (arith, c .before .pre, room-size)
+held-in-requires c κs = omega (arith, c .before .pre, room-size)
 
 returns : tie.Need-returns
-returns c =
-    let h = c .before .before in
-    let a = h .before .before in
-    many-held (a .args .s .now) (a .pre) (h .held-in .result) (h .held-in .ensures) (c .if1 .taken)
+returns c = let h = c .before .before in many-held (h .before .before .args .s .now) (h .before .before .pre) (h .held-in .ensures) (c .if1 .taken)
 
 deletions-in-requires : tie.Need-deletions-in-requires
 deletions-in-requires c κs =
     let h = c .before .before in
-    let a = h .before .before in
-    (h .held-in .ensures, held-end (a .args .s .now) (a .pre) (h .held-in .result) (h .held-in .ensures) (c .if1 .left))
+    (h .held-in .ensures, held-end (h .before .before .args .s .now) (h .before .before .pre) (h .held-in .ensures) (c .if1 .left))
 
 returns-2 : tie.Need-returns-2
 returns-2 c =
-    let d = c .before .before in
-    let h = d .before .before .before in
-    let a = h .before .before in
-    many-deletions (a .args .s .now) (a .pre) (h .held-in .result) (h .held-in .ensures) (d .deletions-in .result) (d .deletions-in .ensures) (c .if2 .taken)
+    let a = c .before .before .before .before .before .before .before in
+    many-deletions (a .args .s .now) (a .pre) (c .before .before .deletions-in .ensures) (c .if2 .taken)
 
 ascending-requires : tie.Need-ascending-requires
-ascending-requires c κs =
-    let d = c .before .before in
-    let h = d .before .before .before in
-    let a = h .before .before in
-    deletions-within (a .args .s .now) (a .pre) (h .held-in .result) (h .held-in .ensures) (d .deletions-in .result) (d .deletions-in .ensures) (d .before .if1 .left) (c .if2 .left)
+ascending-requires c κs = deletions-within (sections c)
 
 returns-3 : tie.Need-returns-3
-returns-3 c =
-    let d = c .before .before .before .before in
-    let h = d .before .before .before in
-    let a = h .before .before in
-    deletions-mixed (a .args .s .now) (a .pre) (h .held-in .result) (h .held-in .ensures) (d .deletions-in .result) (d .deletions-in .ensures) (sym (c .before .ascending .ensures) ∙ not-true (c .before .ascending .result) (c .if3 .taken))
+returns-3 c = deletions-mixed (sections (c .before .before)) (sym (c .before .ascending .ensures) ∙ not-true (c .before .ascending .result) (c .if3 .taken))
 
 ascending-requires-2 : tie.Need-ascending-requires-2
-ascending-requires-2 c κs =
-    let d = c .before .before .before .before in
-    let h = d .before .before .before in
-    let a = h .before .before in
-    held-within (a .args .s .now) (a .pre) (h .held-in .result) (h .held-in .ensures) (d .before .if1 .left)
+ascending-requires-2 c κs = held-within (sections (c .before .before))
 
 returns-4 : tie.Need-returns-4
-returns-4 c =
-    let d = c .before .before .before .before .before .before in
-    let h = d .before .before .before in
-    let a = h .before .before in
-    held-mixed (a .args .s .now) (a .pre) (h .held-in .result) (h .held-in .ensures) (d .deletions-in .result) (d .deletions-in .ensures) (sym (c .before .ascending2 .ensures) ∙ not-true (c .before .ascending2 .result) (c .if4 .taken))
+returns-4 c = held-mixed (sections (c .before .before .before .before)) (sym (c .before .ascending2 .ensures) ∙ not-true (c .before .ascending2 .result) (c .if4 .taken))
 
 deletions-allowed-requires : tie.Need-deletions-allowed-requires
 deletions-allowed-requires c κs =
-    let d = c .before .before .before .before .before .before in
-    let h = d .before .before .before in
-    let a = h .before .before in
-    (deletions-within (a .args .s .now) (a .pre) (h .held-in .result) (h .held-in .ensures) (d .deletions-in .result) (d .deletions-in .ensures) (d .before .if1 .left) (c .before .before .before .before .if2 .left), ap (λ (x : Section). x .size) (d .deletions-in .ensures))
+    let s = sections (c .before .before .before .before) in
+    (deletions-within s, ap (λ (x : Section). x .size) (s .deletions-are))
 
 returns-5 : tie.Need-returns-5
 returns-5 c =
-    let d = c .before .before .before .before .before .before .before .before in
-    let h = d .before .before .before in
-    let a = h .before .before in
-    deletions-barred (a .args .s .now) (a .pre) (h .held-in .result) (h .held-in .ensures) (d .deletions-in .result) (d .deletions-in .ensures) (sym (c .before .deletions-allowed .ensures) ∙ not-true (c .before .deletions-allowed .result) (c .if5 .taken))
+    deletions-barred (sections (c .before .before .before .before .before .before)) (sym (c .before .deletions-allowed .ensures) ∙ not-true (c .before .deletions-allowed .result) (c .if5 .taken))
 
 only-held-requires : tie.Need-only-held-requires
 only-held-requires c κs =
-    let d = c .before .before .before .before .before .before .before .before in
-    let h = d .before .before .before in
-    let a = h .before .before in (
-      h .held-in .ensures,
-      d .deletions-in .ensures,
-      held-within (a .args .s .now) (a .pre) (h .held-in .result) (h .held-in .ensures) (d .before .if1 .left),
-      deletions-within (a .args .s .now) (a .pre) (h .held-in .result) (h .held-in .ensures) (d .deletions-in .result) (d .deletions-in .ensures) (d .before .if1 .left) (c .before .before .before .before .before .before .if2 .left),
-      d .before .if1 .left,
-      held-asc (a .args .s .now) (a .pre) (h .held-in .result) (h .held-in .ensures) (d .deletions-in .result) (d .deletions-in .ensures) (sym (c .before .before .before .ascending2 .ensures) ∙ not-false (c .before .before .before .ascending2 .result) (c .before .before .if4 .left)),
-      deletions-asc (a .args .s .now) (a .pre) (h .held-in .result) (h .held-in .ensures) (d .deletions-in .result) (d .deletions-in .ensures) (sym (c .before .before .before .before .before .ascending .ensures) ∙ not-false (c .before .before .before .before .before .ascending .result) (c .before .before .before .before .if3 .left)),
+    let a = c .before .before .before in
+    let b = a .before .before in
+    let s = sections (b .before) in (
+      s .held-is,
+      s .deletions-are,
+      held-within s,
+      deletions-within s,
+      s .few-held,
+      held-asc s (sym (a .ascending2 .ensures) ∙ not-false (a .ascending2 .result) (c .before .before .if4 .left)),
+      deletions-asc s (sym (b .ascending .ensures) ∙ not-false (b .ascending .result) (a .before .if3 .left)),
     )
 
 add-named : tie.Need-add-named
-add-named c =
-    omega (arith, c .before .only-held .ensures .1, c .before .before .before .before .before .before .before .before .if2 .left)
+add-named c = omega (arith, c .before .only-held .ensures .1, c .before .before .before .before .before .before .before .before .if2 .left)
 
 returns-6 : tie.Need-returns-6
-returns-6 c =
-    let d = c .before .before .before .before .before .before .before .before .before .before .before in
-    let h = d .before .before .before in
-    let a = h .before .before in
-    many-named (a .args .s .now) (a .pre) (h .held-in .result) (h .held-in .ensures) (d .deletions-in .result) (d .deletions-in .ensures) (c .before .before .only-held .result) (c .before .before .only-held .ensures .0) (c .if6 .taken)
+returns-6 c = many-named (sections (c .before .before .before .before .before .before .before .before .before)) (c .before .before .only-held .ensures .0) (c .if6 .taken)
 
 end-of-requires : tie.Need-end-of-requires
 end-of-requires c κs =
-    let d = c .before .before .before .before .before .before .before .before .before .before .before in
-    let h = d .before .before .before in
-    let a = h .before .before in
-    omega (arith, deletions-end (a .args .s .now) (a .pre) (h .held-in .result) (h .held-in .ensures) (d .deletions-in .result) (d .deletions-in .ensures) (d .before .if1 .left) (c .before .before .before .before .before .before .before .before .before .if2 .left), a .pre, room-size)
+    let s = sections (c .before .before .before .before .before .before .before .before .before) in
+    omega (arith, deletions-end s, s .full, room-size)
 
 zeros-requires : tie.Need-zeros-requires
 zeros-requires c κs =
-    let d = c .before .before .before .before .before .before .before .before .before .before .before .before in
-    let h = d .before .before .before in
-    let a = h .before .before in
-    let z = deletions-end (a .args .s .now) (a .pre) (h .held-in .result) (h .held-in .ensures) (d .deletions-in .result) (d .deletions-in .ensures) (d .before .if1 .left) (c .before .before .before .before .before .before .before .before .before .before .if2 .left) in
-    (omega (arith, c .end-of .ensures), omega (arith, a .pre, room-size))
+    let s = sections (c .before .before .before .before .before .before .before .before .before .before) in
+    (omega (arith, c .end-of .ensures, deletions-end s), omega (arith, s .full, room-size))
 
 returns-7 : tie.Need-returns-7
-returns-7 c =
-    let d = c .before .before .before .before .before .before .before .before .before .before .before .before .before .before in
-    let h = d .before .before .before in
-    let a = h .before .before in
-    named-pairs (a .args .s .now) (a .pre) (h .held-in .result) (h .held-in .ensures) (d .deletions-in .result) (d .deletions-in .ensures) (c .before .before .before .before .before .only-held .result) (c .before .before .before .before .before .only-held .ensures .0)
-    (sym (c .before .before .before .before .before .before .before .before .before .before .before .ascending .ensures) ∙ not-false (c .before .before .before .before .before .before .before .before .before .before .before .ascending .result) (c .before .before .before .before .before .before .before .before .before .before .if3 .left))
-    (sym (c .before .before .before .before .before .before .before .before .before .ascending2 .ensures) ∙ not-false (c .before .before .before .before .before .before .before .before .before .ascending2 .result) (c .before .before .before .before .before .before .before .before .if4 .left))
-    (sym (c .before .before .before .before .before .before .before .deletions-allowed .ensures) ∙ not-false (c .before .before .before .before .before .before .before .deletions-allowed .result) (c .before .before .before .before .before .before .if5 .left))
-    (c .before .before .before .if6 .left) (λ (i : ℕ). omega (arith, h .before .shared-slice-known .given i)) (d .before .if1 .left) (c .before .before .end-of .result) (c .before .before .end-of .ensures)
-    (sym (c .before .zeros .ensures) ∙ c .if7 .taken)
+returns-7 c = rw (c .if7 .taken) at (counted (c .before))
 
 returns-8 : tie.Need-returns-8
-returns-8 c =
-    let d = c .before .before .before .before .before .before .before .before .before .before .before .before .before .before in
-    let h = d .before .before .before in
-    let a = h .before .before in
-    rest-used (a .args .s .now) (a .pre) (h .held-in .result) (h .held-in .ensures) (d .deletions-in .result) (d .deletions-in .ensures) (c .before .before .before .before .before .only-held .result) (c .before .before .before .before .before .only-held .ensures .0)
-    (sym (c .before .before .before .before .before .before .before .before .before .before .before .ascending .ensures) ∙ not-false (c .before .before .before .before .before .before .before .before .before .before .before .ascending .result) (c .before .before .before .before .before .before .before .before .before .before .if3 .left))
-    (sym (c .before .before .before .before .before .before .before .before .before .ascending2 .ensures) ∙ not-false (c .before .before .before .before .before .before .before .before .before .ascending2 .result) (c .before .before .before .before .before .before .before .before .if4 .left))
-    (sym (c .before .before .before .before .before .before .before .deletions-allowed .ensures) ∙ not-false (c .before .before .before .before .before .before .before .deletions-allowed .result) (c .before .before .before .before .before .before .if5 .left))
-    (c .before .before .before .if6 .left) (λ (i : ℕ). omega (arith, h .before .shared-slice-known .given i)) (d .before .if1 .left) (c .before .before .end-of .result) (c .before .before .end-of .ensures)
-    (sym (c .before .zeros .ensures) ∙ c .if7 .left)
+returns-8 c = rw (c .if7 .left) at (counted (c .before))
 
 pub named-pairs-spec : {M : Type 1} → statement M
 named-pairs-spec =

@@ -1,8 +1,13 @@
 -- The room is short, out of order, or taken into with the pairs that the check counted.
 use borrow.Author.Needs.{needs}
 use native.Mathlib.Omega.{arith}
-use mathlib.Core.Path.{sym}
-use Rattle.catalogue.proofs.laws.room.View.{call-short, room-short, call-disorder, room-disorder}
+use Prim.Native.Nat.{ℕ, _≤_, _<_}
+use mathlib.Core.Path.{_≡_}
+use mathlib.Core.Bool.{false}
+use mathlib.Core.List.{List}
+use lib.ListN.{length, take}
+use Rattle.catalogue.specs.Room.{roomSize, inOrder}
+use Rattle.catalogue.proofs.laws.room.View.{checked-short, checked-disorder}
 use Rattle.catalogue.proofs.laws.room.Encode.{room-size}
 use Rattle.catalogue.proofs.laws.room.Order.{front-length, front-ordered, front-disordered, front-named}
 use Rattle.catalogue.proofs.order.take_line.Statement.{statement}
@@ -10,9 +15,8 @@ use Rattle.catalogue.proofs.order.take_line.Tie as tie
 
 returns : tie.Need-returns
 returns c =
-    let a = c .before .before .before .args in
-    let h = c .if1 .taken in
-    (sym (call-short (a .room .now) (a .line .now) (omega (arith, room-size))), sym (room-short (a .room .now) (a .line .now) (omega (arith, room-size))))
+    let h : length (c .before .before .before .args .room .now) < roomSize = omega (arith, c .if1 .taken, room-size) in
+    (rw checked-short, rw checked-short)
 
 sub-named-pairs : tie.Need-sub-named-pairs
 sub-named-pairs c = search needs
@@ -31,17 +35,18 @@ same-length c = search needs
 
 returns-2 : tie.Need-returns-2
 returns-2 c =
-    let a = c .before .before .before .before .before .before .before .args in
-    let h = c .before .before .before .before .if1 .left in
-    let e = front-disordered (a .room .now) h (c .before .named-pairs .result) (c .before .named-pairs .ensures) (c .if2 .taken) in
-    (sym (call-disorder (a .room .now) (a .line .now) (omega (arith, room-size)) e), sym (room-disorder (a .room .now) (a .line .now) (omega (arith, room-size)) e))
+    let r : List ℕ = c .before .before .before .before .before .before .before .args .room .now in
+    let l = c .before .before .before .before .if1 .left in
+    let h : roomSize ≤ length r = omega (arith, room-size) in
+    let e : inOrder (take roomSize r) ≡ false = front-disordered r l (c .before .named-pairs .ensures) (c .if2 .taken) in
+    (rw checked-disorder, rw checked-disorder)
 
 take-ordered-requires : tie.Need-take-ordered-requires
 take-ordered-requires c κs =
-    let a = c .before .before .before .before .before .before .before .before .args in
+    let r = c .before .before .before .before .before .before .before .before .args .room .now in
     let h = c .before .before .before .before .before .if1 .left in
-    let n = c .before .before .named-pairs in
-    (front-ordered (a .room .now) h (n .result) (n .ensures) (c .before .if2 .left), front-named (a .room .now) h (n .result) (n .ensures) (c .before .if2 .left))
+    let n = c .before .before .named-pairs .ensures in
+    (front-ordered r h n (c .before .if2 .left), front-named r h n (c .before .if2 .left))
 
 same-length-2 : tie.Need-same-length-2
 same-length-2 c = search needs

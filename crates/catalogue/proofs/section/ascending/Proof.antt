@@ -10,7 +10,7 @@ use lib.Dec.{ltb}
 use lib.ListN.{drop, getD}
 use Rattle.catalogue.specs.Good.{ascends}
 use Rattle.catalogue.specs.Entries.{entriesOf, entryKey}
-use Rattle.catalogue.proofs.laws.assoc.Tri.{tri, less, same, more}
+use Rattle.formats.proofs.laws.Tri.{tri, less, same, more}
 use Rattle.catalogue.proofs.laws.section.Rows.{entries-length}
 use Rattle.catalogue.proofs.laws.section.Search.{asc-start, asc-more, asc-stop, asc-end, asc-none}
 

@@ -4,22 +4,15 @@ use native.Mathlib.Omega.{arith}
 use Rattle.catalogue.proofs.section.met.Statement.{statement}
 use Rattle.catalogue.proofs.section.met.Tie as tie
 use mathlib.Core.Path.{_≡_, sym, _∙_}
-use Prim.Native.Nat.{ℕ, _<_}
-use mathlib.Core.List.{[]}
+use Prim.Native.Nat.{ℕ}
 use mathlib.Core.Bool.{true, false}
-use lib.ListN.{length, getD}
 use borrow.Author.Tests.{eqb-true, eq-eqb}
-use Rattle.catalogue.specs.Keys.{keyNumber}
-use Rattle.catalogue.specs.Entries.{entriesOf, entryKey}
 use Rattle.catalogue.proofs.laws.section.Rows.{entries-length}
 
 returns : tie.Need-returns
 returns c =
-    let a = c .before .before .before .args in (
-      c .before .before .before .pre .1,
-      λ (h : a .i < length (entriesOf (a .of) (a .s .now))) (q : entryKey (a .of) (getD (entriesOf (a .of) (a .s .now)) (a .i) []) ≡ keyNumber (a .key)).
-          omega (arith, entries-length (a .of) (a .s .now), c .if1 .taken),
-    )
+    let d = c .before .before .before in
+    (d .pre .1, λ h q. omega (arith, entries-length (d .args .of) (d .args .s .now), c .if1 .taken))
 
 key-of-requires : tie.Need-key-of-requires
 key-of-requires c κs = search needs
@@ -29,22 +22,19 @@ equal-requires c κs = search needs
 
 returns-2 : tie.Need-returns-2
 returns-2 c =
-    let a = c .before .before .before .before .before .before .args in
-    let k = c .before .before .key-of in (
-      c .before .before .before .before .before .before .pre .1,
-      omega (arith, entries-length (a .of) (a .s .now), c .before .before .before .if1 .left),
-      sym (k .ensures) ∙ eqb-true (keyNumber (k .result)) (keyNumber (a .key)) (sym (c .before .equal .ensures) ∙ c .if2 .taken),
+    let d = c .before .before .before .before .before .before in (
+      d .pre .1,
+      omega (arith, entries-length (d .args .of) (d .args .s .now), c .before .before .before .if1 .left),
+      sym (c .before .before .key-of .ensures) ∙ eqb-true _ _ (sym (c .before .equal .ensures) ∙ c .if2 .taken),
     )
 
 returns-3 : tie.Need-returns-3
-returns-3 c =
-    let a = c .before .before .before .before .before .before .args in
-    let k = c .before .before .key-of in (
-      c .before .before .before .before .before .before .pre .1,
-      λ (h : a .i < length (entriesOf (a .of) (a .s .now))) (q : entryKey (a .of) (getD (entriesOf (a .of) (a .s .now)) (a .i) []) ≡ keyNumber (a .key)).
-          let e : true ≡ false = sym (eq-eqb (keyNumber (k .result)) (keyNumber (a .key)) (k .ensures ∙ q)) ∙ sym (c .before .equal .ensures) ∙ c .if2 .left in
-          let z : _≡_ {A = ℕ} 0 1 = cc in omega arith,
-    )
+returns-3 c = (
+  c .before .before .before .before .before .before .pre .1,
+  λ h q.
+      let e : true ≡ false = sym (eq-eqb _ _ (c .before .before .key-of .ensures ∙ q)) ∙ sym (c .before .equal .ensures) ∙ c .if2 .left in
+      let z : _≡_ {A = ℕ} 0 1 = cc in omega arith,
+)
 
 pub met-spec : {M : Type 1} → statement M
 met-spec = tie.close (tie.spec returns key-of-requires equal-requires returns-2 returns-3)

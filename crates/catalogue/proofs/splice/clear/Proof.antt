@@ -1,23 +1,21 @@
 use borrow.Author.Needs.{needs}
 use native.Mathlib.Omega.{arith}
-use lib.ListN.{length-set, length}
-use lib.Seq.{paste, paste-zero}
-use denote.Ref.{now}
-use Prim.Native.Nat.{suc, _≤_, _-_, _+_}
+use lib.ListN.{length-replicate, getD-replicate}
+use Prim.Native.Nat.{_-_}
 use Rattle.catalogue.specs.Splice.{zeros}
-use Rattle.catalogue.proofs.laws.section.Splicing.{cleared-turn}
-use mathlib.Core.Path.{_≡_, refl, ap, _∙_}
+use Rattle.catalogue.proofs.laws.section.Splicing.{Pasting, pasting-starts, pasting-turns, pasting-ends}
+use mathlib.Core.Path.{sym}
 use Rattle.catalogue.proofs.splice.clear.Statement.{statement}
 use Rattle.catalogue.proofs.splice.clear.Tie as tie
 
 abbrev Inv-loop : tie.InvT-loop
-Inv-loop room₀ at n j₀ room j = (j ≤ n) × (room ≡ paste room₀ at (zeros n) j) × (length room ≡ length room₀)
+Inv-loop room₀ at n j₀ room j = Pasting room₀ (zeros n) at n room j
 
 abbrev μ-loop : tie.MeasureT-loop
 μ-loop room₀ at n j₀ room j = n - j
 
 loop-holds : tie.Need-loop-holds Inv-loop μ-loop
-loop-holds c = (omega arith, paste-zero (now (c .args .room)) (c .args .at) (zeros (c .args .n)), refl)
+loop-holds c = pasting-starts _ _ _ _
 
 add-room : tie.Need-add-room Inv-loop μ-loop
 add-room c = search needs
@@ -33,23 +31,15 @@ loop-less c = search needs
 
 loop-again : tie.Need-loop-again Inv-loop μ-loop
 loop-again c =
-    let a = c .before .before .args in
+    let n = c .before .before .args .n in
     let l = c .before .loop in
-    let e : suc (l .j) ≡ l .j + 1 = omega arith in (
-      omega arith,
-      cleared-turn (now (a .room)) (l .room) (a .at) (a .n) (l .j) (omega arith) (omega arith) (l .inv .1) ∙ ap (paste (now (a .room)) (a .at) (zeros (a .n))) e,
-      simp length-set (l .inv .2),
-    )
+    pasting-turns (l .inv) (omega arith) (simp length-replicate (omega arith)) (omega arith) (sym (getD-replicate n (l .j) 0 0 (omega arith)))
 
 same-length : tie.Need-same-length Inv-loop μ-loop
-same-length c = c .before .loop .inv .2
+same-length c = c .before .loop .inv .as-long
 
 returns : tie.Need-returns Inv-loop μ-loop
-returns c =
-    let a = c .before .before .args in
-    let l = c .before .loop in
-    let e : l .j ≡ a .n = omega arith in
-    l .inv .1 ∙ ap (paste (now (a .room)) (a .at) (zeros (a .n))) e
+returns c = pasting-ends (c .before .loop .inv) (omega arith)
 
 pub clear-spec : {M : Type 1} → statement M
 clear-spec =

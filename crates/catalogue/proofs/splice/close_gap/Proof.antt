@@ -1,22 +1,19 @@
 use borrow.Author.Needs.{needs}
 use native.Mathlib.Omega.{arith}
-use lib.ListN.{length-set, length, drop}
-use lib.Seq.{paste, paste-zero}
-use denote.Ref.{now}
-use Prim.Native.Nat.{suc, _≤_, _-_, _+_}
-use Rattle.catalogue.proofs.laws.section.Splicing.{closed-turn}
-use mathlib.Core.Path.{_≡_, refl, ap, _∙_}
+use lib.ListN.{drop, length-drop}
+use Prim.Native.Nat.{_-_, _+_}
+use Rattle.catalogue.proofs.laws.section.Splicing.{Pasting, pasting-starts, pasting-turns, pasting-ends, byte-ahead}
 use Rattle.catalogue.proofs.splice.close_gap.Statement.{statement}
 use Rattle.catalogue.proofs.splice.close_gap.Tie as tie
 
 abbrev Inv-loop : tie.InvT-loop
-Inv-loop room₀ at w n j₀ room j = (j ≤ n) × (room ≡ paste room₀ at (drop (at + w) room₀) j) × (length room ≡ length room₀)
+Inv-loop room₀ at w n j₀ room j = Pasting room₀ (drop (at + w) room₀) at n room j
 
 abbrev μ-loop : tie.MeasureT-loop
 μ-loop room₀ at w n j₀ room j = n - j
 
 loop-holds : tie.Need-loop-holds Inv-loop μ-loop
-loop-holds c = (omega arith, paste-zero (now (c .args .room)) (c .args .at) (drop (c .args .at + c .args .w) (now (c .args .room))), refl)
+loop-holds c = pasting-starts _ _ _ _
 
 add-room : tie.Need-add-room Inv-loop μ-loop
 add-room c = search needs
@@ -41,23 +38,14 @@ loop-less c = search needs
 
 loop-again : tie.Need-loop-again Inv-loop μ-loop
 loop-again c =
-    let a = c .before .before .before .args in
     let l = c .before .before .loop in
-    let e : suc (l .j) ≡ l .j + 1 = omega arith in (
-      omega arith,
-      closed-turn (now (a .room)) (l .room) (a .at) (a .w) (a .n) (l .j) (omega arith) (omega arith) (l .inv .1) ∙ ap (paste (now (a .room)) (a .at) (drop (a .at + a .w) (now (a .room)))) e,
-      simp length-set (l .inv .2),
-    )
+    pasting-turns (l .inv) (omega arith) (simp length-drop (omega arith)) (omega arith) (byte-ahead (c .before .before .before .args .w) (omega arith) (omega arith) (l .inv))
 
 same-length : tie.Need-same-length Inv-loop μ-loop
-same-length c = c .before .loop .inv .2
+same-length c = c .before .loop .inv .as-long
 
 returns : tie.Need-returns Inv-loop μ-loop
-returns c =
-    let a = c .before .before .args in
-    let l = c .before .loop in
-    let e : l .j ≡ a .n = omega arith in
-    l .inv .1 ∙ ap (paste (now (a .room)) (a .at) (drop (a .at + a .w) (now (a .room)))) e
+returns c = pasting-ends (c .before .loop .inv) (omega arith)
 
 pub close-gap-spec : {M : Type 1} → statement M
 close-gap-spec =

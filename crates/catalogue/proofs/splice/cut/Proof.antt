@@ -1,9 +1,6 @@
 use borrow.Author.Needs.{needs}
-use mathlib.Core.Path.{_∙_, ap}
-use mathlib.Core.List.{List}
-use Prim.Native.Nat.{ℕ, _-_}
-use lib.Seq.{paste}
-use Rattle.catalogue.specs.Splice.{cutOut, zeros}
+use Prim.Native.Nat.{_-_}
+use Rattle.catalogue.specs.Splice.{cutOut}
 use Rattle.catalogue.proofs.splice.cut.Statement.{statement}
 use Rattle.catalogue.proofs.splice.cut.Tie as tie
 
@@ -27,9 +24,7 @@ same-length c = search needs
 
 returns : tie.Need-returns
 unfolding cutOut
-returns c =
-    let d = c .before .before .before .before .before .before .before .before .before .args in
-    c .before .before .clear .ensures ∙ ap (λ (r : List ℕ). paste r (d .used - d .w) (zeros (d .w)) (d .w)) (c .before .before .before .before .before .before .close-gap .ensures)
+returns c = rw (← c .before .before .before .before .before .before .close-gap .ensures) (c .before .before .clear .ensures)
 
 pub cut-spec : {M : Type 1} → statement M
 cut-spec =

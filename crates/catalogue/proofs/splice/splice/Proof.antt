@@ -1,8 +1,4 @@
-use mathlib.Core.Path.{_∙_, ap}
-use mathlib.Core.List.{List}
-use Prim.Native.Nat.{ℕ}
-use lib.ListN.{length}
-use lib.Seq.{paste}
+use mathlib.Core.Path.{_∙_}
 use denote.Ref.{now}
 use Rattle.catalogue.proofs.laws.section.Splicing.{filled}
 use borrow.Author.Needs.{needs}
@@ -21,8 +17,8 @@ same-length c = search needs
 returns : tie.Need-returns
 returns c =
     let d = c .before .before .before .before .before .before .before .before .before .before in
-    c .before .before .copy-in .ensures ∙ ap (λ (r : List ℕ). paste r (d .args .at) (now (d .args .s)) (length (now (d .args .s)))) (c .before .before .before .before .before .before .open-gap .ensures)
-    ∙ filled (now (d .args .room)) (now (d .args .s)) (d .args .at) (d .args .used) (d .pre .0) (d .pre .1)
+    c .before .before .copy-in .ensures
+    ∙ rw (c .before .before .before .before .before .before .open-gap .ensures) (filled (now (d .args .room)) (now (d .args .s)) (d .args .at) (d .args .used) (d .pre .0) (d .pre .1))
 
 pub splice-spec : {M : Type 1} → statement M
 splice-spec = tie.close (tie.spec open-gap-requires copy-in-requires same-length returns)

@@ -3,13 +3,9 @@ use borrow.Author.Needs.{needs}
 use native.Mathlib.Omega.{arith}
 use Rattle.catalogue.proofs.take.carry_out.Statement.{statement}
 use Rattle.catalogue.proofs.take.carry_out.Tie as tie
-use mathlib.Core.Path.{sym, _∙_, ap, ap₂}
-use Prim.Native.Nat.{ℕ}
-use Rattle.catalogue.specs.declared.section.Section.{Section}
-use Rattle.catalogue.specs.Moves.{putIn}
-use Rattle.catalogue.specs.Places.{endOf}
+use mathlib.Core.Path.{sym, _∙_}
 use Rattle.catalogue.proofs.laws.room.Places.{used-fits}
-use Rattle.catalogue.proofs.laws.room.Carry.{left, hold-length, hold-few, hold-room, held-asks, held-put, note-able, note-room}
+use Rattle.catalogue.proofs.laws.room.Carry.{left, hold-asks, hold-room, note-able, note-room}
 
 enum-told : tie.Need-enum-told
 enum-told c = search needs
@@ -25,11 +21,7 @@ end-of-requires c κs =
 put-requires : tie.Need-put-requires
 put-requires c κs =
     let d = c .before .before .before .before .before .before .before .before .before in
-    let a = d .args in
-    let r = a .room .now in
-    let p = sym (d .pre .2) ∙ c .before .before .before .enum-told2 .given .1 in
-    held-asks (a .room .now) (d .pre .0) (a .line .now) (hold-length (a .room .now) (d .pre .0) (a .line .now) _ p) (hold-few (a .room .now) (d .pre .0) (a .line .now) _ p) (a .f .in_held) (d .pre .1 .in-held)
-    (a .f .held) (d .pre .1 .held-is) (c .before .end-of .result) (c .before .end-of .ensures ∙ ap endOf (d .pre .1 .deletions-are))
+    hold-asks (d .pre .0) (d .pre .1) (sym (d .pre .2) ∙ c .before .before .before .enum-told2 .given .1) (c .before .end-of .ensures)
 
 enum-known-deed : tie.Need-enum-known-deed
 enum-known-deed c = search needs
@@ -37,9 +29,7 @@ enum-known-deed c = search needs
 note-requires : tie.Need-note-requires
 note-requires c κs =
     let d = c .before .before .before .before .before .before .before .before in
-    let a = d .args in
-    let g = c .before .before .deed .given in
-    (d .pre .0, d .pre .1 .deletions-are, note-able (a .room .now) (d .pre .0) (a .line .now) (a .f) (d .pre .1) (g .0 .0) (sym (d .pre .2) ∙ g .1))
+    (d .pre .0, d .pre .1 .deletions-are, note-able (d .pre .0) (d .pre .1) (sym (d .pre .2) ∙ c .before .before .deed .given .1))
 
 enum-known-deed-2 : tie.Need-enum-known-deed-2
 enum-known-deed-2 c = search needs
@@ -52,8 +42,7 @@ wipe-requires c κs =
 returns : tie.Need-returns
 returns c =
     let d = c .before .before .before .before .before .before in
-    let g = c .enum-told .given in
-    left (d .args .room .now) (d .pre .0) (d .args .line .now) (g .0 .0) (sym (d .pre .2) ∙ g .1)
+    left (d .pre .0) (d .args .line .now) (sym (d .pre .2) ∙ c .enum-told .given .1)
 
 same-length : tie.Need-same-length
 same-length c = search needs
@@ -61,13 +50,7 @@ same-length c = search needs
 returns-2 : tie.Need-returns-2
 returns-2 c =
     let d = c .before .before .before .before .before .before .before .before .before .before .before .before in
-    let a = d .args in
-    let g = c .before .before .before .before .before .before .enum-told2 .given in
-    let p = sym (d .pre .2) ∙ g .1 in
-    c .before .before .put .ensures
-    ∙ ap₂ (λ (s : Section) (n : ℕ). putIn (a .room .now) s n (a .f .in_held) (a .line .now)) (d .pre .1 .held-is) (c .before .before .before .before .end-of .ensures ∙ ap endOf (d .pre .1 .deletions-are))
-    ∙ held-put (a .room .now) (d .pre .0) (a .line .now) (hold-length (a .room .now) (d .pre .0) (a .line .now) (g .0 .0) p) (hold-few (a .room .now) (d .pre .0) (a .line .now) (g .0 .0) p) (a .f .in_held) (d .pre .1 .in-held)
-    ∙ hold-room (a .room .now) (d .pre .0) (a .line .now) (g .0 .0) p
+    c .before .before .put .ensures ∙ hold-room (d .pre .0) (d .pre .1) (sym (d .pre .2) ∙ c .before .before .before .before .before .before .enum-told2 .given .1) (c .before .before .before .before .end-of .ensures)
 
 same-length-2 : tie.Need-same-length-2
 same-length-2 c = search needs
@@ -75,9 +58,7 @@ same-length-2 c = search needs
 returns-3 : tie.Need-returns-3
 returns-3 c =
     let d = c .before .before .before .before .before .before .before .before .before .before .before in
-    let a = d .args in
-    let g = c .before .before .before .before .before .deed .given in
-    c .before .before .note .ensures ∙ note-room (a .room .now) (d .pre .0) (a .line .now) (a .f) (d .pre .1) (g .0 .0) (sym (d .pre .2) ∙ g .1)
+    c .before .before .note .ensures ∙ note-room (d .pre .0) (d .pre .1) (sym (d .pre .2) ∙ c .before .before .before .before .before .deed .given .1)
 
 same-length-3 : tie.Need-same-length-3
 same-length-3 c = search needs

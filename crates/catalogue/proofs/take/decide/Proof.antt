@@ -1,15 +1,7 @@
 -- Kind by kind: a deletion that covers the line, or what is held.
 use borrow.Author.Needs.{needs}
-use mathlib.Core.Path.{sym, _∙_, ap}
-use mathlib.Core.List.{List}
-use mathlib.Core.Option.{Option}
-use Prim.Native.Nat.{ℕ}
-use Rattle.catalogue.specs.declared.take.Notice.{Notice}
 use Rattle.catalogue.specs.Line.{version}
 use Rattle.catalogue.specs.Taking.{decide}
-use Rattle.catalogue.specs.Entries.{entriesOf, entryOf}
-use Rattle.catalogue.specs.Findings.{noticeKind}
-use Rattle.catalogue.proofs.laws.step.Decide.{decide-event-covered, decide-event, decide-delete-covered, decide-delete, decide-blank}
 use Rattle.catalogue.proofs.take.decide.Statement.{statement}
 use Rattle.catalogue.proofs.take.decide.Tie as tie
 
@@ -23,13 +15,8 @@ covered-requires : tie.Need-covered-requires
 covered-requires c κs = search needs
 
 returns : tie.Need-returns
-unfolding version
-returns c =
-    let a = c .before .before .before .before .before .before .before .before .before .args in
-    let d : Option (List ℕ) = entryOf (entriesOf (a .f .deletions) (a .room .now)) (a .f .in_deletions) in
-    let h : Option (List ℕ) = entryOf (entriesOf (a .f .held) (a .room .now)) (a .f .in_held) in
-    let t = ap (λ (k : Notice). decide (noticeKind k) (a .line .now) d h) (c .before .before .before .enum-told .given .1) in
-    sym (t ∙ decide-event-covered (a .line .now) d h (sym (c .before .covered .ensures) ∙ c .if1 .taken))
+unfolding version decide
+returns c = rw (c .before .before .before .enum-told .given .1, ← c .before .covered .ensures, c .if1 .taken)
 
 over-held-requires : tie.Need-over-held-requires
 over-held-requires c κs = search needs
@@ -44,13 +31,8 @@ covered-requires-2 : tie.Need-covered-requires-2
 covered-requires-2 c κs = search needs
 
 returns-2 : tie.Need-returns-2
-unfolding version
-returns-2 c =
-    let a = c .before .before .before .before .before .before .before .before .before .args in
-    let d : Option (List ℕ) = entryOf (entriesOf (a .f .deletions) (a .room .now)) (a .f .in_deletions) in
-    let h : Option (List ℕ) = entryOf (entriesOf (a .f .held) (a .room .now)) (a .f .in_held) in
-    let t = ap (λ (k : Notice). decide (noticeKind k) (a .line .now) d h) (c .before .before .before .enum-told2 .given .1) in
-    sym (t ∙ decide-delete-covered (a .line .now) d h (sym (c .before .covered2 .ensures) ∙ c .if2 .taken))
+unfolding version decide
+returns-2 c = rw (c .before .before .before .enum-told2 .given .1, ← c .before .covered2 .ensures, c .if2 .taken)
 
 shared-slice-read-over-deleted : tie.Need-shared-slice-read-over-deleted
 shared-slice-read-over-deleted c = search needs
@@ -65,30 +47,16 @@ over-blank-requires : tie.Need-over-blank-requires
 over-blank-requires c κs = search needs
 
 returns-3 : tie.Need-returns-3
-unfolding version
-returns-3 c =
-    let a = c .before .before .before .before .before .before .before .before .before .before .args in
-    let d : Option (List ℕ) = entryOf (entriesOf (a .f .deletions) (a .room .now)) (a .f .in_deletions) in
-    let h : Option (List ℕ) = entryOf (entriesOf (a .f .held) (a .room .now)) (a .f .in_held) in
-    let t = ap (λ (k : Notice). decide (noticeKind k) (a .line .now) d h) (c .before .before .before .before .enum-told .given .1) in
-    c .over-held .ensures ∙ sym (t ∙ decide-event (a .line .now) d h (sym (c .before .before .covered .ensures) ∙ c .before .if1 .left))
+unfolding version decide
+returns-3 c = rw (c .before .before .before .before .enum-told .given .1, ← c .before .before .covered .ensures, c .before .if1 .left) (c .over-held .ensures)
 
 returns-4 : tie.Need-returns-4
-unfolding version
-returns-4 c =
-    let a = c .before .before .before .before .before .before .before .before .before .before .before .args in
-    let d : Option (List ℕ) = entryOf (entriesOf (a .f .deletions) (a .room .now)) (a .f .in_deletions) in
-    let h : Option (List ℕ) = entryOf (entriesOf (a .f .held) (a .room .now)) (a .f .in_held) in
-    let t = ap (λ (k : Notice). decide (noticeKind k) (a .line .now) d h) (c .before .before .before .before .before .enum-told2 .given .1) in
-    c .over-deleted .ensures ∙ sym (t ∙ decide-delete (a .line .now) d h (sym (c .before .before .before .covered2 .ensures) ∙ c .before .before .if2 .left))
+unfolding version decide
+returns-4 c = rw (c .before .before .before .before .before .enum-told2 .given .1, ← c .before .before .before .covered2 .ensures, c .before .before .if2 .left) (c .over-deleted .ensures)
 
 returns-5 : tie.Need-returns-5
-returns-5 c =
-    let a = c .before .before .before .before .before .before .before .args in
-    let d : Option (List ℕ) = entryOf (entriesOf (a .f .deletions) (a .room .now)) (a .f .in_deletions) in
-    let h : Option (List ℕ) = entryOf (entriesOf (a .f .held) (a .room .now)) (a .f .in_held) in
-    let t = ap (λ (k : Notice). decide (noticeKind k) (a .line .now) d h) (c .before .enum-told3 .given .1) in
-    c .over-blank .ensures ∙ sym (t ∙ decide-blank (a .line .now) d h)
+unfolding decide
+returns-5 c = rw (c .before .enum-told3 .given .1) (c .over-blank .ensures)
 
 pub decide-spec : {M : Type 1} → statement M
 decide-spec =

@@ -6,15 +6,21 @@ use Rattle.catalogue.proofs.take.look_both.Tie as tie
 use mathlib.Core.Path.{refl, _∙_, ap}
 use mathlib.Core.Logic.{inl, inr}
 use Rattle.catalogue.specs.Line.{key}
-use Rattle.catalogue.specs.Keys.{keyNumber}
+use Rattle.catalogue.specs.Room.{contents}
+use Rattle.catalogue.specs.Entries.{Sought}
 use Rattle.catalogue.specs.Findings.{noticeKind}
 use Rattle.catalogue.proofs.laws.step.Line.{whole}
 use Rattle.catalogue.proofs.laws.room.Found.{notice-ok, line-key, long-enough, held-open, deletion-open, held-sought, deletion-sought}
 
+-- the pair's place among the held lines
+in-held : (c : tie.After-look) → let a = c .before .before .before .before .before .before .args in
+    Sought key (key (a .line .now)) (contents (a .room .now) .held) (c .look .result)
+in-held c =
+    let d = c .before .before .before .before .before .before in
+    held-sought (d .args .room .now) (d .pre .0) (c .before .before .before .held-in .ensures) (c .before .key-at .ensures ∙ line-key (d .args .line .now)) (c .look .result) (c .look .ensures)
+
 held-in-requires : tie.Need-held-in-requires
-held-in-requires c κs =
-    let d = c .before .before in
-    long-enough (d .args .room .now) (d .pre .0) .0
+held-in-requires c κs = let d = c .before .before in long-enough (d .args .room .now) (d .pre .0) .0
 
 deletions-in-requires : tie.Need-deletions-in-requires
 deletions-in-requires c κs =
@@ -28,43 +34,33 @@ key-at-requires c κs =
     (omega arith, omega arith)
 
 look-requires : tie.Need-look-requires
-look-requires c κs =
-    let d = c .before .before .before .before .before in
-    held-open (d .args .room .now) (d .pre .0) (c .before .before .held-in .result) (c .before .before .held-in .ensures)
+look-requires c κs = let d = c .before .before .before .before .before in held-open (d .args .room .now) (d .pre .0) (c .before .before .held-in .ensures)
 
 skips-requires : tie.Need-skips-requires
 skips-requires c κs = search needs
 
 returns : tie.Need-returns
 returns c =
-    let d = c .before .before .before .before .before .before .before .before in
     let s = c .before .skips .ensures (c .if1 .taken) in
-    let h = c .before .before .before .before .before .held-in in
-    let k = c .before .before .before .key-at in
     record {
-      held-is = h .ensures;
+      held-is = c .before .before .before .before .before .held-in .ensures;
       deletions-are = c .before .before .before .before .deletions-in .ensures;
-      in-held = held-sought (d .args .room .now) (d .pre .0) (h .result) (keyNumber (k .result)) (key (d .args .line .now)) (c .before .before .look .result) (h .ensures) (k .ensures ∙ line-key (d .args .line .now)) (c .before .before .look .ensures);
-      in-deletions = inr (d .pre .1 ∙ ap noticeKind (s .0), s .1, refl);
+      in-held = in-held (c .before .before);
+      in-deletions = inr (c .before .before .before .before .before .before .before .before .pre .1 ∙ ap noticeKind (s .0), s .1, refl);
     }
 
 look-requires-2 : tie.Need-look-requires-2
-look-requires-2 c κs =
-    let d = c .before .before .before .before .before .before .before .before in
-    deletion-open (d .args .room .now) (d .pre .0) (c .before .before .before .before .deletions-in .result) (c .before .before .before .before .deletions-in .ensures)
+look-requires-2 c κs = let d = c .before .before .before .before .before .before .before .before in deletion-open (d .args .room .now) (d .pre .0) (c .before .before .before .before .deletions-in .ensures)
 
 returns-2 : tie.Need-returns-2
 returns-2 c =
     let d = c .before .before .before .before .before .before .before .before .before in
-    let h = c .before .before .before .before .before .before .held-in in
-    let g = c .before .before .before .before .before .deletions-in in
-    let k = c .before .before .before .before .key-at in
-    let e = k .ensures ∙ line-key (d .args .line .now) in
+    let g = c .before .before .before .before .before .deletions-in .ensures in
     record {
-      held-is = h .ensures;
-      deletions-are = g .ensures;
-      in-held = held-sought (d .args .room .now) (d .pre .0) (h .result) (keyNumber (k .result)) (key (d .args .line .now)) (c .before .before .before .look .result) (h .ensures) e (c .before .before .before .look .ensures);
-      in-deletions = inl (deletion-sought (d .args .room .now) (d .pre .0) (g .result) (keyNumber (k .result)) (key (d .args .line .now)) (c .look2 .result) (g .ensures) e (c .look2 .ensures));
+      held-is = c .before .before .before .before .before .before .held-in .ensures;
+      deletions-are = g;
+      in-held = in-held (c .before .before .before);
+      in-deletions = inl (deletion-sought (d .args .room .now) (d .pre .0) g (c .before .before .before .before .key-at .ensures ∙ line-key (d .args .line .now)) (c .look2 .result) (c .look2 .ensures));
     }
 
 pub look-both-spec : {M : Type 1} → statement M

@@ -1,7 +1,5 @@
 -- Deed by deed.
-use mathlib.Core.Path.{sym, _∙_, ap}
 use Rattle.catalogue.specs.declared.take.Deed.{Deed}
-use Rattle.catalogue.specs.Findings.{namedAfter}
 use borrow.Author.Needs.{needs}
 use Rattle.catalogue.proofs.take.named_after.Statement.{statement}
 use Rattle.catalogue.proofs.take.named_after.Tie as tie
@@ -31,19 +29,13 @@ returns : tie.Need-returns
 returns c = search needs
 
 returns-2 : tie.Need-returns-2
-returns-2 c =
-    let a = c .before .before .before .args in
-    c .one-more .ensures ∙ sym (ap (λ (x : Deed). namedAfter x (a .in-held) (a .in-deletions) (a .named)) (c .before .enum-told2 .given .1))
+returns-2 c = rw (c .before .enum-told2 .given .1) (c .one-more .ensures)
 
 returns-3 : tie.Need-returns-3
-returns-3 c =
-    let a = c .before .before .before .args in
-    c .one-more2 .ensures ∙ sym (ap (λ (x : Deed). namedAfter x (a .in-held) (a .in-deletions) (a .named)) (c .before .enum-told3 .given .1))
+returns-3 c = rw (c .before .enum-told3 .given .1) (c .one-more2 .ensures)
 
 returns-4 : tie.Need-returns-4
-returns-4 c =
-    let a = c .before .before .before .args in
-    c .one-more3 .ensures ∙ sym (ap (λ (x : Deed). namedAfter x (a .in-held) (a .in-deletions) (a .named)) (c .before .enum-told4 .given .1))
+returns-4 c = rw (c .before .enum-told4 .given .1) (c .one-more3 .ensures)
 
 pub named-after-spec : {M : Type 1} → statement M
 named-after-spec =

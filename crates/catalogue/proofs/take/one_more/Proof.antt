@@ -1,8 +1,5 @@
 -- A pair that is in a section is named already.
 use native.Mathlib.Numerals.{add-one}
-use mathlib.Core.Path.{sym, _∙_, ap, ap₂}
-use Rattle.catalogue.specs.declared.section.Seek.{Seek}
-use Rattle.catalogue.specs.Findings.{oneMore}
 use borrow.Author.Needs.{needs}
 use Rattle.catalogue.proofs.take.one_more.Statement.{statement}
 use Rattle.catalogue.proofs.take.one_more.Tie as tie
@@ -23,19 +20,13 @@ add-result : tie.Need-add-result
 add-result c = search needs
 
 returns : tie.Need-returns
-returns c =
-    let a = c .before .before .args in
-    sym (ap (λ (x : Seek). oneMore x (a .in-deletions) (a .named)) (c .enum-told .given .1))
+returns c = rw (c .enum-told .given .1)
 
 returns-2 : tie.Need-returns-2
-returns-2 c =
-    let a = c .before .before .before .before .args in
-    sym (ap₂ (λ (x y : Seek). oneMore x y (a .named)) (c .before .before .enum-told2 .given .1) (c .enum-told3 .given .1))
+returns-2 c = rw (c .before .before .enum-told2 .given .1, c .enum-told3 .given .1)
 
 returns-3 : tie.Need-returns-3
-returns-3 c =
-    let a = c .before .before .before .before .args in
-    add-one (a .named) ∙ sym (ap₂ (λ (x y : Seek). oneMore x y (a .named)) (c .before .before .enum-told2 .given .1) (c .enum-told4 .given .1))
+returns-3 c = rw (c .before .before .enum-told2 .given .1, c .enum-told4 .given .1) (add-one _)
 
 pub one-more-spec : {M : Type 1} → statement M
 one-more-spec =

@@ -3,16 +3,8 @@ use borrow.Author.Needs.{needs}
 use native.Mathlib.Omega.{arith}
 use Rattle.catalogue.proofs.take.over_blank.Statement.{statement}
 use Rattle.catalogue.proofs.take.over_blank.Tie as tie
-use mathlib.Core.Path.{sym, _∙_, ap, subst}
-use mathlib.Core.List.{List, []}
-use Prim.Native.Nat.{ℕ}
-use lib.ListN.{getD}
-use Rattle.catalogue.specs.declared.section.Seek.{Seek}
-use Rattle.catalogue.specs.declared.take.Deed.the-variants.{Wipe}
 use Rattle.catalogue.specs.Line.{version}
 use Rattle.catalogue.specs.Taking.{overBlank}
-use Rattle.catalogue.specs.Entries.{entriesOf, entryOf, placeOf}
-use Rattle.catalogue.proofs.laws.step.Decide.{over-blank-none, over-blank-some}
 
 enum-told : tie.Need-enum-told
 enum-told c = search needs
@@ -23,21 +15,15 @@ enum-known-seek c = search needs
 entry-byte-requires : tie.Need-entry-byte-requires
 entry-byte-requires c κs =
     let d = c .before .before .before .before in
-    let g = c .before .seek .given in
-    (d .pre .0, subst (λ (s : Seek). placeOf s (d .args .of .count)) (g .1) (d .pre .2), omega (arith, d .pre .1))
+    (d .pre .0, rw (c .before .seek .given .1) at (d .pre .2), omega (arith, d .pre .1))
 
 returns : tie.Need-returns
-returns c =
-    let a = c .before .before .before .args in
-    sym (ap (λ (s : Seek). overBlank (entryOf (entriesOf (a .of) (a .room .now)) s)) (c .enum-told .given .1) ∙ over-blank-none)
+unfolding overBlank
+returns c = rw (c .enum-told .given .1)
 
 returns-2 : tie.Need-returns-2
-unfolding version
-returns-2 c =
-    let a = c .before .before .before .before .before .args in
-    let g = c .before .before .seek .given in
-    let xs : List (List ℕ) = entriesOf (a .of) (a .room .now) in
-    ap Wipe (c .entry-byte .ensures) ∙ sym (ap (λ (s : Seek). overBlank (entryOf xs s)) (g .1) ∙ over-blank-some (getD xs (g .0 .0) []))
+unfolding overBlank version
+returns-2 c = rw (c .before .before .seek .given .1, ← c .entry-byte .ensures)
 
 pub over-blank-spec : {M : Type 1} → statement M
 over-blank-spec =

@@ -3,17 +3,21 @@ use borrow.Author.Needs.{needs}
 use native.Mathlib.Omega.{arith}
 use Rattle.catalogue.proofs.take.over_held.Statement.{statement}
 use Rattle.catalogue.proofs.take.over_held.Tie as tie
-use mathlib.Core.Path.{sym, _∙_, ap, subst}
-use mathlib.Core.List.{List, []}
-use Prim.Native.Nat.{ℕ, _-_, _<_}
-use lib.ListN.{getD}
-use Rattle.formats.specs.Record.{sameBytes}
-use Rattle.catalogue.specs.declared.section.Seek.{Seek}
+use Prim.Native.Nat.{_+_, _≤_, _<_}
+use borrow.Author.Tests.{lt-ltb, le-ltb}
+use lib.ListN.{length}
 use Rattle.catalogue.specs.Line.{version}
 use Rattle.catalogue.specs.Taking.{overHeld}
-use Rattle.catalogue.specs.Entries.{entriesOf, entryOf, placeOf}
-use Rattle.catalogue.proofs.laws.section.Rows.{entry-fits, entry-part}
-use Rattle.catalogue.proofs.laws.step.Decide.{over-held-none, over-held-below, over-held-same, over-held-other}
+use Rattle.catalogue.proofs.laws.section.Rows.{entry-end, entry-part}
+
+-- the held line's place, and that its bytes lie in the room
+held-place : (c : tie.After-seek) → c .seek .given .0 .0 < c .before .before .before .before .args .of .count
+held-place c = rw (c .seek .given .1) at (c .before .before .before .before .pre .2)
+
+held-end : (c : tie.After-entry-at) → c .entry-at .result + 80 ≤ length (c .before .before .before .before .before .before .before .before .before .args .room .now)
+held-end c =
+    let d = c .before .before .before .before .before .before .before .before .before in
+    entry-end (d .args .of) (d .args .room .now) _ (held-place (c .before .before .before .before .before)) (d .pre .1) (c .entry-at .ensures) (d .pre .0)
 
 enum-told : tie.Need-enum-told
 enum-told c = search needs
@@ -27,31 +31,17 @@ shared-slice-read-if1 c = search needs
 entry-byte-requires : tie.Need-entry-byte-requires
 entry-byte-requires c κs =
     let d = c .before .before .before .before .before .before in
-    let g = c .before .before .seek .given in
-    (d .pre .0, subst (λ (s : Seek). placeOf s (d .args .of .count)) (g .1) (d .pre .2), omega (arith, d .pre .1))
+    (d .pre .0, held-place (c .before .before), omega (arith, d .pre .1))
 
 returns : tie.Need-returns
-unfolding version
-returns c =
-    let d = c .before .before .before .before .before .before .before .before in
-    let g = c .before .before .before .before .seek .given in
-    let xs : List (List ℕ) = entriesOf (d .args .of) (d .args .room .now) in
-    sym (ap (λ (s : Seek). overHeld (d .args .line .now) (entryOf xs s)) (g .1)
-    ∙ over-held-below (d .args .line .now) (getD xs (g .0 .0) []) (omega (arith, c .if1 .taken, c .before .entry-byte .ensures)))
+unfolding overHeld version
+returns c = rw (c .before .before .before .before .seek .given .1, ← c .before .entry-byte .ensures, lt-ltb _ _ (c .if1 .taken))
 
 entry-at-requires : tie.Need-entry-at-requires
-entry-at-requires c κs =
-    let d = c .before .before .before .before .before .before .before .before in
-    let g = c .before .before .before .before .seek .given in
-    let p : g .0 .0 < d .args .of .count = subst (λ (s : Seek). placeOf s (d .args .of .count)) (g .1) (d .pre .2) in
-    (d .pre .0, omega arith)
+entry-at-requires c κs = (c .before .before .before .before .before .before .before .before .pre .0, omega (arith, held-place (c .before .before .before .before)))
 
 add-end : tie.Need-add-end
-add-end c =
-    let d = c .before .before .before .before .before .before .before .before .before in
-    let g = c .before .before .before .before .before .seek .given in
-    let p : g .0 .0 < d .args .of .count = subst (λ (s : Seek). placeOf s (d .args .of .count)) (g .1) (d .pre .2) in
-    omega (arith, c .entry-at .ensures, entry-fits (d .args .of) (d .args .room .now) (d .pre .0) (g .0 .0) p, d .pre .1)
+add-end c = omega (arith, held-end c)
 
 sub-same : tie.Need-sub-same
 sub-same c = search needs
@@ -60,43 +50,28 @@ part-same-start : tie.Need-part-same-start
 part-same-start c = search needs
 
 part-same-end : tie.Need-part-same-end
-part-same-end c =
-    let d = c .before .before .before .before .before .before .before .before .before in
-    let g = c .before .before .before .before .before .seek .given in
-    let p : g .0 .0 < d .args .of .count = subst (λ (s : Seek). placeOf s (d .args .of .count)) (g .1) (d .pre .2) in
-    omega (arith, c .entry-at .ensures, entry-fits (d .args .of) (d .args .room .now) (d .pre .0) (g .0 .0) p, d .pre .1)
+part-same-end c = held-end c
 
 same-requires : tie.Need-same-requires
 same-requires c κs = search needs
 
 returns-2 : tie.Need-returns-2
-unfolding version
+unfolding overHeld version
 returns-2 c =
     let d = c .before .before .before .before .before .before .before .before .before .before .before .before in
-    let g = c .before .before .before .before .before .before .before .before .seek .given in
-    let p : g .0 .0 < d .args .of .count = subst (λ (s : Seek). placeOf s (d .args .of .count)) (g .1) (d .pre .2) in
-    let xs : List (List ℕ) = entriesOf (d .args .of) (d .args .room .now) in
-    let b = entry-part (d .args .of) (d .args .room .now) (g .0 .0) p 80 (d .pre .1) (c .before .before .before .entry-at .result) (c .before .before .before .entry-at .ensures) in
-    sym (ap (λ (s : Seek). overHeld (d .args .line .now) (entryOf xs s)) (g .1)
-    ∙ over-held-same (d .args .line .now) (getD xs (g .0 .0) []) (omega (arith, c .before .before .before .before .if1 .left, c .before .before .before .before .before .entry-byte .ensures))
-    (ap (sameBytes (d .args .line .now)) (sym b) ∙ sym (c .before .same .ensures) ∙ c .if2 .taken))
+    let b = entry-part (d .args .of) (d .args .room .now) _ (held-place (c .before .before .before .before .before .before .before .before)) (d .pre .1) (c .before .before .before .entry-at .ensures) in
+    rw (c .before .before .before .before .before .before .before .before .seek .given .1, ← c .before .before .before .before .before .entry-byte .ensures, le-ltb _ _ (c .before .before .before .before .if1 .left), ← b, ← c .before .same .ensures, c .if2 .taken)
 
 returns-3 : tie.Need-returns-3
-returns-3 c =
-    let d = c .before .before .before .before in
-    sym (ap (λ (s : Seek). overHeld (d .args .line .now) (entryOf (entriesOf (d .args .of) (d .args .room .now)) s)) (c .enum-told .given .1) ∙ over-held-none (d .args .line .now))
+unfolding overHeld
+returns-3 c = rw (c .enum-told .given .1)
 
 returns-4 : tie.Need-returns-4
-unfolding version
+unfolding overHeld version
 returns-4 c =
     let d = c .before .before .before .before .before .before .before .before .before .before .before .before in
-    let g = c .before .before .before .before .before .before .before .before .seek .given in
-    let p : g .0 .0 < d .args .of .count = subst (λ (s : Seek). placeOf s (d .args .of .count)) (g .1) (d .pre .2) in
-    let xs : List (List ℕ) = entriesOf (d .args .of) (d .args .room .now) in
-    let b = entry-part (d .args .of) (d .args .room .now) (g .0 .0) p 80 (d .pre .1) (c .before .before .before .entry-at .result) (c .before .before .before .entry-at .ensures) in
-    sym (ap (λ (s : Seek). overHeld (d .args .line .now) (entryOf xs s)) (g .1)
-    ∙ over-held-other (d .args .line .now) (getD xs (g .0 .0) []) (omega (arith, c .before .before .before .before .if1 .left, c .before .before .before .before .before .entry-byte .ensures))
-    (ap (sameBytes (d .args .line .now)) (sym b) ∙ sym (c .before .same .ensures) ∙ c .if2 .left))
+    let b = entry-part (d .args .of) (d .args .room .now) _ (held-place (c .before .before .before .before .before .before .before .before)) (d .pre .1) (c .before .before .before .entry-at .ensures) in
+    rw (c .before .before .before .before .before .before .before .before .seek .given .1, ← c .before .before .before .before .before .entry-byte .ensures, le-ltb _ _ (c .before .before .before .before .if1 .left), ← b, ← c .before .same .ensures, c .if2 .left)
 
 pub over-held-spec : {M : Type 1} → statement M
 over-held-spec =

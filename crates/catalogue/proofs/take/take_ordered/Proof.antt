@@ -3,13 +3,21 @@ use borrow.Author.Needs.{needs}
 use native.Mathlib.Omega.{arith}
 use Rattle.catalogue.proofs.take.take_ordered.Statement.{statement}
 use Rattle.catalogue.proofs.take.take_ordered.Tie as tie
-use mathlib.Core.Path.{refl, sym, _∙_, ap}
+use mathlib.Core.Path.{_≡_, refl, _∙_, ap}
 use lib.ListN.{getD}
+use Rattle.catalogue.specs.Line.{kind}
 use Rattle.formats.proofs.laws.CubeRecord.{was-refused}
 use Rattle.catalogue.specs.Findings.{noticeKind, noticeOf, refusedCall}
 use Rattle.catalogue.proofs.laws.step.Line.{whole}
 use Rattle.catalogue.proofs.laws.room.Found.{notice-ok}
 use Rattle.catalogue.proofs.laws.room.Took.{there-kind, took-refused}
+
+-- what is there is a notice
+is-notice : (c : tie.After-read) → let l = c .before .before .before .before .before .args .line .now in kind l ≡ noticeKind (noticeOf (c .read .given .0 .0) (getD l 12 0))
+is-notice c =
+    let l = c .before .before .read-line in
+    let g = c .read .given in
+    there-kind (c .before .before .before .before .before .args .line .now) (l .result) (l .ensures) (g .0 .0) (g .0 .1 .0) (g .1)
 
 read-line-requires : tie.Need-read-line-requires
 read-line-requires c κs = search needs
@@ -26,20 +34,15 @@ refused-requires c κs = search needs
 returns : tie.Need-returns
 returns c =
     let d = c .before .before .before .before .before .before in
-    let a = d .args in
     let g = c .before .enum-told .given in
     let l = c .before .before .before .read-line in
-    let e = was-refused _ (l .result) (g .0 .0) (g .0 .1 .0) (l .ensures) (g .1) in
-    took-refused (a .room .now) (d .pre .0) (a .line .now) (g .0 .0) (g .0 .1 .0) e (a .named) (d .pre .1) _ (c .refused .ensures ∙ ap refusedCall (g .1)) refl
+    took-refused (d .pre .0) (d .args .line .now) (was-refused _ (l .result) (g .0 .0) (g .0 .1 .0) (l .ensures) (g .1)) (d .pre .1) _ (c .refused .ensures ∙ ap refusedCall (g .1)) refl
 
 shared-slice-read-notice-of : tie.Need-shared-slice-read-notice-of
 shared-slice-read-notice-of c =
-    let d = c .before .before .before .before .before .before .before .before in
-    let g = c .before .before .before .read .given in
-    let l = c .before .before .before .before .before .read-line in
-    let k = there-kind (d .args .line .now) (l .result) (l .ensures) (g .0 .0) (g .0 .1 .0) (g .1) in
-    let n = whole (d .args .line .now) (notice-ok (d .args .line .now) (noticeOf (g .0 .0) (getD (d .args .line .now) 12 0)) k) .long in
-    omega arith
+    let l = c .before .before .before .before .before .before .before .before .args .line .now in
+    let r = c .before .before .before in
+    omega (arith, whole l (notice-ok l (noticeOf (r .read .given .0 .0) (getD l 12 0)) (is-notice r)) .long)
 
 notice-of-requires : tie.Need-notice-of-requires
 notice-of-requires c κs = search needs
@@ -47,9 +50,7 @@ notice-of-requires c κs = search needs
 take-notice-requires : tie.Need-take-notice-requires
 take-notice-requires c κs =
     let d = c .before .before .before .before .before .before .before .before .before in
-    let g = c .before .before .before .before .read .given in
-    let l = c .before .before .before .before .before .before .read-line in
-    (d .pre .0, d .pre .1, there-kind (d .args .line .now) (l .result) (l .ensures) (g .0 .0) (g .0 .1 .0) (g .1) ∙ ap noticeKind (sym (c .notice-of .ensures)))
+    (d .pre .0, d .pre .1, rw (c .notice-of .ensures) (is-notice (c .before .before .before .before)))
 
 same-length : tie.Need-same-length
 same-length c = search needs

@@ -3,18 +3,17 @@ use borrow.Author.Needs.{needs}
 use native.Mathlib.Omega.{arith}
 use Rattle.catalogue.proofs.take.wipe.Statement.{statement}
 use Rattle.catalogue.proofs.take.wipe.Tie as tie
-use mathlib.Core.Path.{_∙_, ap, ap₂, subst}
-use Prim.Native.Nat.{ℕ}
-use Rattle.catalogue.specs.declared.section.Section.{Section}
-use Rattle.catalogue.specs.declared.section.Seek.the-variants.{Found}
-use Rattle.catalogue.specs.Line.{key}
-use Rattle.catalogue.specs.Room.{contents}
-use Rattle.catalogue.specs.Entries.{Sought}
-use Rattle.catalogue.specs.Moves.{takenOut}
-use Rattle.catalogue.specs.Places.{endOf}
+use mathlib.Core.Path.{_∙_}
 use Rattle.catalogue.proofs.laws.room.Places.{used-fits}
 use Rattle.catalogue.proofs.laws.room.Found.{long-enough}
-use Rattle.catalogue.proofs.laws.room.Carry.{cut-asks, wipe-found, wipe-ordered, wipe-able, wipe-room}
+use Rattle.catalogue.proofs.laws.room.Carry.{Between, wipe-found, wipe-asks, between}
+
+-- the room without the held line
+rest : (c : tie.After-take-out) → let a = c .before .before .before .before .before .before .before .before .before .before .before .args in
+    Between (a .room .now) (a .line .now) (a .v) (a .f .in_deletions) (c .take-out .last .0)
+rest c =
+    let d = c .before .before .before .before .before .before .before .before .before .before .before in
+    between (d .pre .0) (d .pre .1) (d .pre .2) (c .before .before .before .before .before .in-held .given .1) (c .before .before .end-of .ensures) (c .take-out .ensures)
 
 enum-known-in-held : tie.Need-enum-known-in-held
 enum-known-in-held c = search needs
@@ -25,9 +24,7 @@ enum-told c = search needs
 returns : tie.Need-returns
 returns c =
     let d = c .before .before .before .before .before .before in
-    let a = d .args in
-    let g = c .enum-told .given in
-    absurd (wipe-found (a .room .now) (d .pre .0) (a .line .now) (a .f) (d .pre .1) (a .v) (d .pre .2) (g .0 .0) (g .1))
+    absurd (wipe-found (d .pre .0) (d .pre .1) (d .pre .2) (c .enum-told .given .1))
 
 end-of-requires : tie.Need-end-of-requires
 end-of-requires c κs =
@@ -37,48 +34,25 @@ end-of-requires c κs =
 take-out-requires : tie.Need-take-out-requires
 take-out-requires c κs =
     let d = c .before .before .before .before .before .before .before .before .before .before in
-    let a = d .args in
-    let g = c .before .before .before .before .in-held .given in
-    let s : Sought key (key (a .line .now)) (contents (a .room .now) .held) (Found (g .0 .0)) = subst (Sought key (key (a .line .now)) (contents (a .room .now) .held)) (g .1) (d .pre .1 .in-held) in
-    cut-asks (a .room .now) (d .pre .0) (key (a .line .now)) (g .0 .0) s (a .f .held) (d .pre .1 .held-is) (c .before .end-of .result) (c .before .end-of .ensures ∙ ap endOf (d .pre .1 .deletions-are))
+    wipe-asks (d .pre .0) (d .pre .1) (d .pre .2) (c .before .before .before .before .in-held .given .1) (c .before .end-of .ensures)
 
 held-in-requires : tie.Need-held-in-requires
-held-in-requires c κs =
-    let d = c .before .before .before .before .before .before .before .before .before .before .before .before .before .before in
-    let a = d .args in
-    let g = c .before .before .before .before .before .before .before .before .in-held .given in
-    let q = c .before .before .before .take-out .ensures ∙ ap₂ (λ (s : Section) (n : ℕ). takenOut (a .room .now) s n (g .0 .0)) (d .pre .1 .held-is) (c .before .before .before .before .before .end-of .ensures ∙ ap endOf (d .pre .1 .deletions-are)) in
-    long-enough _ (wipe-ordered (a .room .now) (d .pre .0) (a .line .now) (a .f) (d .pre .1) (a .v) (d .pre .2) (g .0 .0) (g .1) _ q) .0
+held-in-requires c κs = long-enough _ (rest (c .before .before .before) .ordered) .0
 
 deletions-in-requires : tie.Need-deletions-in-requires
-deletions-in-requires c κs =
-    let d = c .before .before .before .before .before .before .before .before .before .before .before .before .before .before .before in
-    let a = d .args in
-    let g = c .before .before .before .before .before .before .before .before .before .in-held .given in
-    let q = c .before .before .before .before .take-out .ensures ∙ ap₂ (λ (s : Section) (n : ℕ). takenOut (a .room .now) s n (g .0 .0)) (d .pre .1 .held-is) (c .before .before .before .before .before .before .end-of .ensures ∙ ap endOf (d .pre .1 .deletions-are)) in
-    (c .held-in .ensures, rw (c .held-in .ensures) (long-enough _ (wipe-ordered (a .room .now) (d .pre .0) (a .line .now) (a .f) (d .pre .1) (a .v) (d .pre .2) (g .0 .0) (g .1) _ q) .1))
+deletions-in-requires c κs = (c .held-in .ensures, rw (c .held-in .ensures) (long-enough _ (rest (c .before .before .before .before) .ordered) .1))
 
 note-requires : tie.Need-note-requires
 note-requires c κs =
-    let d = c .before .before .before .before .before .before .before .before .before .before .before .before .before .before .before .before .before in
-    let a = d .args in
-    let g = c .before .before .before .before .before .before .before .before .before .before .before .in-held .given in
-    let q = c .before .before .before .before .before .before .take-out .ensures ∙ ap₂ (λ (s : Section) (n : ℕ). takenOut (a .room .now) s n (g .0 .0)) (d .pre .1 .held-is) (c .before .before .before .before .before .before .before .before .end-of .ensures ∙ ap endOf (d .pre .1 .deletions-are)) in (
-      wipe-ordered (a .room .now) (d .pre .0) (a .line .now) (a .f) (d .pre .1) (a .v) (d .pre .2) (g .0 .0) (g .1) _ q,
-      c .before .deletions-in .ensures,
-      wipe-able (a .room .now) (d .pre .0) (a .line .now) (a .f) (d .pre .1) (a .v) (d .pre .2) (g .0 .0) (g .1) _ q,
-    )
+    let b = rest (c .before .before .before .before .before .before) in
+    (b .ordered, c .before .deletions-in .ensures, b .able)
 
 same-length : tie.Need-same-length
 same-length c = search needs
 
 returns-2 : tie.Need-returns-2
 returns-2 c =
-    let d = c .before .before .before .before .before .before .before .before .before .before .before .before .before .before .before .before .before .before .before .before in
-    let a = d .args in
-    let g = c .before .before .before .before .before .before .before .before .before .before .before .before .before .before .in-held .given in
-    let q = c .before .before .before .before .before .before .before .before .before .take-out .ensures ∙ ap₂ (λ (s : Section) (n : ℕ). takenOut (a .room .now) s n (g .0 .0)) (d .pre .1 .held-is) (c .before .before .before .before .before .before .before .before .before .before .before .end-of .ensures ∙ ap endOf (d .pre .1 .deletions-are)) in
-    c .before .before .note .ensures ∙ wipe-room (a .room .now) (d .pre .0) (a .line .now) (a .f) (d .pre .1) (a .v) (d .pre .2) (g .0 .0) (g .1) _ q
+    c .before .before .note .ensures ∙ rest (c .before .before .before .before .before .before .before .before .before) .done-is
 
 pub wipe-spec : {M : Type 1} → statement M
 wipe-spec =
