@@ -12,11 +12,11 @@ use Rattle.formats.specs.declared.cube.Read.the-variants.{There, Refused}
 use Rattle.catalogue.specs.declared.Call.{Call}
 use Rattle.catalogue.specs.declared.section.Seek.{Seek}
 use Rattle.catalogue.specs.declared.section.Seek.the-variants.{Found, Missing}
-use Rattle.catalogue.specs.declared.take.Deed.{Deed}
-use Rattle.catalogue.specs.declared.take.Deed.the-variants.{Leave, Hold, Note, Wipe}
-use Rattle.catalogue.specs.declared.take.Notice.{Notice}
-use Rattle.catalogue.specs.declared.take.Notice.the-variants.{Event, Delete, Blank}
-use Rattle.catalogue.specs.declared.take.Findings.{Findings}
+use Rattle.catalogue.specs.declared.decide.Deed.{Deed}
+use Rattle.catalogue.specs.declared.decide.Deed.the-variants.{Leave, Hold, Note, Wipe}
+use Rattle.catalogue.specs.declared.decide.Notice.{Notice}
+use Rattle.catalogue.specs.declared.decide.Notice.the-variants.{Event, Delete, Blank}
+use Rattle.catalogue.specs.declared.decide.Findings.{Findings}
 use Rattle.catalogue.specs.declared.take.Receipt.{Receipt}
 use Rattle.catalogue.specs.Answers.{removed, noted}
 use Rattle.catalogue.specs.Assoc.{put}

@@ -3,13 +3,17 @@ pub mod Line
 pub mod Assoc
 pub mod Section
 pub mod Catalogue
-pub mod Taking
 pub mod Good
+pub mod Taking
 pub mod Room
+pub mod Untouched
 pub mod Ordered
+pub mod LookUp
 pub mod FromSet
 pub mod Lists
 pub mod Last
+pub mod Demand
+pub mod Desk
 pub mod Keys
 pub mod Entries
 pub mod Places
@@ -17,7 +21,3 @@ pub mod Findings
 pub mod Splice
 pub mod Moves
 pub mod Zeros
-pub mod Untouched
-pub mod Demand
-pub mod Desk
-pub mod LookUp

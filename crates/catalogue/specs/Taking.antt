@@ -7,8 +7,8 @@ use lib.Dec.{ltb, leb}
 use Rattle.columns.specs.Answer.{pick}
 use Rattle.formats.specs.Cube.{readLine}
 use Rattle.formats.specs.Record.{sameBytes}
-use Rattle.catalogue.specs.declared.take.Deed.{Deed}
-use Rattle.catalogue.specs.declared.take.Deed.the-variants.{Leave, Hold, Note, Wipe}
+use Rattle.catalogue.specs.declared.decide.Deed.{Deed}
+use Rattle.catalogue.specs.declared.decide.Deed.the-variants.{Leave, Hold, Note, Wipe}
 use Rattle.catalogue.specs.Answers.{full, stored, replaced, repeated, outdated, removed, noted, nothingHeld}
 use Rattle.catalogue.specs.Assoc.{find, put, remove}
 use Rattle.catalogue.specs.Line.{Kind, event, delete, blank, refused, kind, refusedBy, version, key, deletion, deletionKey, deletionVersion}
@@ -71,7 +71,7 @@ done (Note v) c l = record { answer = noted; after = withDeletions c (put deleti
 done (Wipe v) c l =
     record {
       answer = removed;
-      after = record { held = remove key (key l) (c .held); deletions = put deletionKey (deletion l v) (c .deletions) };
+      after = withDeletions (withHeld c (remove key (key l) (c .held))) (put deletionKey (deletion l v) (c .deletions));
     }
 
 unfoldable pub step : Catalogue → List ℕ → Taken

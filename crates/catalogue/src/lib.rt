@@ -1,4 +1,5 @@
 // The catalogue: one room of held E lines and deletions.
+pub mod decide;
 pub mod desk;
 pub mod key;
 pub mod look_up;
@@ -14,6 +15,9 @@ pub const ROOM: usize = 46596;
 
 // The most pairs that a room names.
 pub const PAIRS: usize = 512;
+
+// The version of a delete that has none.
+pub const BLANK: u8 = 32;
 
 // The numbers that the catalogue answers (document 01, "Numbers answered"): refusals, then what was taken.
 pub const FULL: u8 = 12;

@@ -9,8 +9,8 @@ use borrow.Author.Tests.{ltb-true, ltb-false, leb-true, leb-false, lt-ltb, le-lt
 use Rattle.columns.specs.Answer.{pick}
 use Rattle.formats.specs.Record.{sameBytes}
 use Rattle.formats.proofs.laws.Record.{same-is}
-use Rattle.catalogue.specs.declared.take.Deed.{Deed}
-use Rattle.catalogue.specs.declared.take.Deed.the-variants.{Leave, Hold, Note, Wipe}
+use Rattle.catalogue.specs.declared.decide.Deed.{Deed}
+use Rattle.catalogue.specs.declared.decide.Deed.the-variants.{Leave, Hold, Note, Wipe}
 use Rattle.catalogue.specs.Answers.{replaced, repeated, outdated}
 use Rattle.catalogue.specs.Line.{event, delete, Acceptable, version, key, deletion, deletionVersion}
 use Rattle.catalogue.specs.Taking.{covered, overHeld, overDeleted, decide}

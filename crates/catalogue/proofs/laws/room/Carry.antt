@@ -8,9 +8,9 @@ use lib.ListN.{length, drop, getD}
 use Rattle.catalogue.specs.declared.section.Section.{Section}
 use Rattle.catalogue.specs.declared.section.Seek.{Seek}
 use Rattle.catalogue.specs.declared.section.Seek.the-variants.{Found, Missing}
-use Rattle.catalogue.specs.declared.take.Deed.{Deed}
-use Rattle.catalogue.specs.declared.take.Deed.the-variants.{Leave, Hold, Note, Wipe}
-use Rattle.catalogue.specs.declared.take.Findings.{Findings}
+use Rattle.catalogue.specs.declared.decide.Deed.{Deed}
+use Rattle.catalogue.specs.declared.decide.Deed.the-variants.{Leave, Hold, Note, Wipe}
+use Rattle.catalogue.specs.declared.decide.Findings.{Findings}
 use Rattle.catalogue.specs.Assoc.{put, remove}
 use Rattle.catalogue.specs.Line.{event, kind, key, deletion, deletionKey}
 use Rattle.catalogue.specs.Section.{part, capacity}

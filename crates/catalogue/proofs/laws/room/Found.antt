@@ -10,9 +10,9 @@ use lib.Seq.{getD-drop}
 use Rattle.catalogue.specs.declared.section.Section.{Section}
 use Rattle.catalogue.specs.declared.section.Seek.{Seek}
 use Rattle.catalogue.specs.declared.section.Seek.the-variants.{Found, Missing}
-use Rattle.catalogue.specs.declared.take.Notice.{Notice}
-use Rattle.catalogue.specs.declared.take.Notice.the-variants.{Event, Delete, Blank}
-use Rattle.catalogue.specs.declared.take.Findings.{Findings}
+use Rattle.catalogue.specs.declared.decide.Notice.{Notice}
+use Rattle.catalogue.specs.declared.decide.Notice.the-variants.{Event, Delete, Blank}
+use Rattle.catalogue.specs.declared.decide.Findings.{Findings}
 use Rattle.catalogue.specs.Assoc.{find, AscFrom}
 use Rattle.catalogue.specs.Line.{Acceptable, event, kind, key, pair, deletion, deletionKey}
 use Rattle.catalogue.specs.Catalogue.{named}

@@ -15,11 +15,11 @@ use Rattle.formats.proofs.laws.CubeFields.{delete-version}
 use Rattle.formats.proofs.laws.CubeRecord.{was-event, was-delete}
 use Rattle.catalogue.specs.declared.section.Seek.{Seek}
 use Rattle.catalogue.specs.declared.section.Seek.the-variants.{Found, Missing}
-use Rattle.catalogue.specs.declared.take.Deed.{Deed}
-use Rattle.catalogue.specs.declared.take.Deed.the-variants.{Leave, Hold, Note, Wipe}
-use Rattle.catalogue.specs.declared.take.Notice.{Notice}
-use Rattle.catalogue.specs.declared.take.Notice.the-variants.{Event, Delete, Blank}
-use Rattle.catalogue.specs.declared.take.Findings.{Findings}
+use Rattle.catalogue.specs.declared.decide.Deed.{Deed}
+use Rattle.catalogue.specs.declared.decide.Deed.the-variants.{Leave, Hold, Note, Wipe}
+use Rattle.catalogue.specs.declared.decide.Notice.{Notice}
+use Rattle.catalogue.specs.declared.decide.Notice.the-variants.{Event, Delete, Blank}
+use Rattle.catalogue.specs.declared.decide.Findings.{Findings}
 use Rattle.catalogue.specs.declared.take.Receipt.{Receipt}
 use Rattle.catalogue.specs.Line.{Acceptable, event, delete, blank, refused, kindOf, kind, refusedBy, refusedAt, key, deletionKey}
 use Rattle.catalogue.specs.Catalogue.{Catalogue, named}

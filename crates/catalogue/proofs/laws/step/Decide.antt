@@ -9,8 +9,8 @@ use Rattle.columns.specs.Answer.{pick}
 use borrow.Author.Tests.{lt-ltb, le-leb, lt-leb}
 use Rattle.formats.specs.Cube.{readLine}
 use Rattle.formats.specs.Record.{sameBytes}
-use Rattle.catalogue.specs.declared.take.Deed.{Deed}
-use Rattle.catalogue.specs.declared.take.Deed.the-variants.{Leave, Hold, Note, Wipe}
+use Rattle.catalogue.specs.declared.decide.Deed.{Deed}
+use Rattle.catalogue.specs.declared.decide.Deed.the-variants.{Leave, Hold, Note, Wipe}
 use Rattle.catalogue.specs.Answers.{replaced, repeated, outdated}
 use Rattle.catalogue.specs.Assoc.{find}
 use Rattle.catalogue.specs.Line.{Kind, event, refused, kind, refusedBy, version, key, deletionKey, deletionVersion}

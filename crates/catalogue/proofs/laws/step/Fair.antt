@@ -10,8 +10,8 @@ use lib.Dec.{ltb, leb}
 use borrow.Author.Tests.{leb-false}
 use Rattle.columns.specs.Answer.{pick}
 use Rattle.formats.specs.Record.{sameBytes}
-use Rattle.catalogue.specs.declared.take.Deed.{Deed}
-use Rattle.catalogue.specs.declared.take.Deed.the-variants.{Leave, Hold, Note, Wipe}
+use Rattle.catalogue.specs.declared.decide.Deed.{Deed}
+use Rattle.catalogue.specs.declared.decide.Deed.the-variants.{Leave, Hold, Note, Wipe}
 use Rattle.catalogue.specs.Answers.{stored, replaced, repeated, outdated}
 use Rattle.catalogue.specs.Assoc.{find}
 use Rattle.catalogue.specs.Line.{Kind, event, delete, blank, refused, kind, Acceptable, version, key, deletionKey, deletionVersion}

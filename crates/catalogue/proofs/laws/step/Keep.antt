@@ -6,8 +6,8 @@ use mathlib.Core.Bool.{true}
 use mathlib.Core.List.{List}
 use mathlib.Core.Option.{Option, none, some}
 use native.Mathlib.Omega.{arith}
-use Rattle.catalogue.specs.declared.take.Deed.{Deed}
-use Rattle.catalogue.specs.declared.take.Deed.the-variants.{Leave, Hold, Note, Wipe}
+use Rattle.catalogue.specs.declared.decide.Deed.{Deed}
+use Rattle.catalogue.specs.declared.decide.Deed.the-variants.{Leave, Hold, Note, Wipe}
 use Rattle.catalogue.specs.Assoc.{find, remove, AscFrom}
 use Rattle.catalogue.specs.Line.{event, kind, version, key, deletion, deletionKey, deletionVersion}
 use Rattle.catalogue.specs.Catalogue.{Catalogue, withHeld}

@@ -1,7 +1,7 @@
 -- Deed by deed.
 use borrow.Author.Needs.{needs}
-use Rattle.catalogue.proofs.take.declined.Statement.{statement}
-use Rattle.catalogue.proofs.take.declined.Tie as tie
+use Rattle.catalogue.proofs.decide.declined.Statement.{statement}
+use Rattle.catalogue.proofs.decide.declined.Tie as tie
 use mathlib.Core.Path.{sym, ap}
 use Rattle.catalogue.specs.Taking.{declined}
 

@@ -1,8 +1,8 @@
 -- By what is held: nothing, a version above the line's, the same bytes, or other bytes.
 use borrow.Author.Needs.{needs}
 use native.Mathlib.Omega.{arith}
-use Rattle.catalogue.proofs.take.over_held.Statement.{statement}
-use Rattle.catalogue.proofs.take.over_held.Tie as tie
+use Rattle.catalogue.proofs.decide.over_held.Statement.{statement}
+use Rattle.catalogue.proofs.decide.over_held.Tie as tie
 use Prim.Native.Nat.{_+_, _≤_, _<_}
 use borrow.Author.Tests.{lt-ltb, le-ltb}
 use lib.ListN.{length}

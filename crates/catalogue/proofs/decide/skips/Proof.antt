@@ -1,8 +1,8 @@
 -- Only an event whose pair is held.
 use borrow.Author.Needs.{needs}
 use native.Mathlib.Omega.{arith}
-use Rattle.catalogue.proofs.take.skips.Statement.{statement}
-use Rattle.catalogue.proofs.take.skips.Tie as tie
+use Rattle.catalogue.proofs.decide.skips.Statement.{statement}
+use Rattle.catalogue.proofs.decide.skips.Tie as tie
 use mathlib.Core.Path.{_≡_, sym, subst}
 use mathlib.Core.Bool.{true, false}
 use Prim.Native.Nat.{ℕ}

@@ -1,8 +1,8 @@
 -- Nothing held, a held version at or below it, or one above it.
 use borrow.Author.Needs.{needs}
 use native.Mathlib.Omega.{arith}
-use Rattle.catalogue.proofs.take.over_deleted.Statement.{statement}
-use Rattle.catalogue.proofs.take.over_deleted.Tie as tie
+use Rattle.catalogue.proofs.decide.over_deleted.Statement.{statement}
+use Rattle.catalogue.proofs.decide.over_deleted.Tie as tie
 use borrow.Author.Tests.{le-leb, lt-leb}
 use Rattle.catalogue.specs.Line.{version}
 use Rattle.catalogue.specs.Taking.{overDeleted}

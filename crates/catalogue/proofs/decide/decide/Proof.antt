@@ -2,8 +2,8 @@
 use borrow.Author.Needs.{needs}
 use Rattle.catalogue.specs.Line.{version}
 use Rattle.catalogue.specs.Taking.{decide}
-use Rattle.catalogue.proofs.take.decide.Statement.{statement}
-use Rattle.catalogue.proofs.take.decide.Tie as tie
+use Rattle.catalogue.proofs.decide.decide.Statement.{statement}
+use Rattle.catalogue.proofs.decide.decide.Tie as tie
 
 enum-told : tie.Need-enum-told
 enum-told c = search needs

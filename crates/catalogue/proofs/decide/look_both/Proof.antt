@@ -1,8 +1,8 @@
 -- The sections are those of the room, and a search in them is one in the catalogue.
 use borrow.Author.Needs.{needs}
 use native.Mathlib.Omega.{arith}
-use Rattle.catalogue.proofs.take.look_both.Statement.{statement}
-use Rattle.catalogue.proofs.take.look_both.Tie as tie
+use Rattle.catalogue.proofs.decide.look_both.Statement.{statement}
+use Rattle.catalogue.proofs.decide.look_both.Tie as tie
 use mathlib.Core.Path.{refl, _∙_, ap}
 use mathlib.Core.Logic.{inl, inr}
 use Rattle.catalogue.specs.Line.{key}

@@ -1,7 +1,7 @@
 -- A pair that is in a section is not new; one that is in none needs room.
 use borrow.Author.Needs.{needs}
-use Rattle.catalogue.proofs.take.limited.Statement.{statement}
-use Rattle.catalogue.proofs.take.limited.Tie as tie
+use Rattle.catalogue.proofs.decide.limited.Statement.{statement}
+use Rattle.catalogue.proofs.decide.limited.Tie as tie
 use mathlib.Core.List.{List}
 use Prim.Native.Nat.{ℕ}
 use borrow.Author.Tests.{le-leb, lt-leb}
