@@ -27,7 +27,7 @@ use Rattle.catalogue.specs.Places.{heldIn, deletionsIn}
 use Rattle.catalogue.proofs.laws.section.Rows.{entry-length, entry-part}
 use Rattle.catalogue.proofs.laws.section.Search.{asc-at, below-grows, every-more, every-stop, every-end}
 use Rattle.catalogue.proofs.laws.section.Seek.{sought-find, sought-as}
-use Rattle.catalogue.proofs.laws.step.Names.{only-cons, only-one, only-zero}
+use Rattle.catalogue.proofs.laws.step.Names.{only-cons, only-none, only-some}
 use Rattle.catalogue.proofs.laws.room.Places.{held-key, deletion-key}
 use Rattle.formats.specs.Cube as cube
 
@@ -64,9 +64,9 @@ weightBy none v = 2
 weightBy (some d) v = pick (ltb (getD d 10 0) v) 1 0
 
 weighed : (D : List (List ℕ)) (x : List ℕ) → isEventLine x ≡ true → (o : Option (List ℕ)) → find deletionKey (key x) D ≡ o → weightOf D x ≡ weightBy o (getD x 12 0)
-unfolding heldOk aboveDeletion version deletionVersion
-weighed D x e none f = rw (sym (event-line x) ∙ e, f, ← only-one D x f)
-weighed D x e (some d) f = rw (sym (event-line x) ∙ e, f, ← only-zero D x d f)
+unfolding heldOk aboveDeletion version deletionVersion onlyHeld
+weighed D x e none f = rw (sym (event-line x) ∙ e, only-none D x [] f, f)
+weighed D x e (some d) f = rw (sym (event-line x) ∙ e, only-some D x [] d f, f)
 
 module _ (s : List ℕ) {held deletions : Section} (eh : held ≡ heldIn s) (ed : deletions ≡ deletionsIn s) where
   deletion-keyed : entryKey deletions ≡ deletionKey

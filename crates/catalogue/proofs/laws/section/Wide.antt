@@ -1,9 +1,8 @@
 -- Rows of one width, and sections that fit.
 use Prim.Native.Nat.{ℕ, zero, suc, _≤_}
-use mathlib.Core.Path.{_≡_}
+use mathlib.Core.Path.{_≡_, refl}
 use mathlib.Core.List.{List, [], _∷_, List·Memᴰ, List·Memᴰ·head, List·Memᴰ·tail}
 use lib.ListN.{length, take, drop}
-use mathlib.Core.Path.{refl}
 use Rattle.catalogue.specs.Assoc.{put, remove}
 use Rattle.formats.proofs.laws.Tri.{less, same, more, tri}
 use Rattle.catalogue.proofs.laws.assoc.Tri.{eq, ne, eq?}
