@@ -6,5 +6,4 @@ pub mod Rows
 pub mod Laid
 pub mod RowMoves
 pub mod Seek
-pub mod Put
 pub mod Parts

@@ -26,11 +26,4 @@ unfolding covered deletionVersion
 returns-2 c = rw (c .before .before .seek .given .1, ← c .entry-byte .ensures)
 
 pub covered-spec : {M : Type 1} → statement M
-covered-spec =
-    tie.close
-    (tie.spec
-    enum-told
-    enum-known-seek
-    entry-byte-requires
-    returns
-    returns-2)
+covered-spec = tie.close (tie.spec enum-told enum-known-seek entry-byte-requires returns returns-2)

@@ -27,10 +27,4 @@ returns-2 c = rw (c .before .before .seek .given .1, ← c .entry-byte .ensures)
 
 pub over-blank-spec : {M : Type 1} → statement M
 over-blank-spec =
-    tie.close
-    (tie.spec
-    enum-told
-    enum-known-seek
-    entry-byte-requires
-    returns
-    returns-2)
+    tie.close (tie.spec enum-told enum-known-seek entry-byte-requires returns returns-2)

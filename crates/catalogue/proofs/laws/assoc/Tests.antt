@@ -22,6 +22,15 @@ pub pick-by : {A : Type 0} (P : A → Type 0) (b : Bool) (x y : A) → (b ≡ tr
 pick-by P true x y f g = f refl
 pick-by P false x y f g = g refl
 
+-- a pick that is not the other one, and one that cannot be this
+pub picked : {A : Type 0} (t : Bool) {n m r : A} → r ≡ pick t n m → (r ≡ m → ⊥) → (t ≡ true) × (r ≡ n)
+picked true e f = (refl, e)
+picked false e f = absurd (f e)
+
+pub unpicked : {A : Type 0} (t : Bool) (m : A) {n r : A} → r ≡ pick t n m → (t ≡ true → r ≡ n → ⊥) → t ≡ false
+unpicked true m e f = absurd (f refl e)
+unpicked false m e f = refl
+
 module _ {E : Type 0} (key : E → ℕ) where
   pub asc-of : (b : ℕ) (xs : List E) → ascends key b xs ≡ true → AscFrom key b xs
   unfolding ascends

@@ -83,14 +83,6 @@ refusals-idle room out (l ∷ ls) =
     let h : callOf room l .number ≤ 19 = elim (call-idle room out l) [ inl e ↦ omega arith | inr e ↦ omega arith ] in
     rw (le-leb (callOf room l .number) 19 h, room-idle room out l) (ap suc (refusals-idle room out ls))
 
-pub fed : (room after : List ℕ) (ls : List (List ℕ)) (t : Tally) → after ≡ feed room ls → t .lines ≡ length ls → t .refused ≡ refusals room ls → Fed room after ls t
-fed room after ls t e n k = record {
-  room-is = e;
-  lines-are = n;
-  refused-are = k;
-  idle = λ (out : Ordered room → ⊥). (e ∙ feed-idle room out ls, k ∙ refusals-idle room out ls ∙ sym n);
-}
-
 -- ---- a loop over the ends
 
 -- before the i-th end: what is left to take gives what the whole gives
@@ -132,7 +124,10 @@ module _ {before s es room : List ℕ} {start i refused : ℕ} (F : Feeding befo
   feeding-ends h =
       let n : i ≡ length es = omega (arith, F .passed) in
       let e : drop i es ≡ [] = rw n (drop-length es) in
-      fed before room (linesAt s es) (record { lines = i; refused = refused }) (rw e at (F .room-left)) (n ∙ sym (lines-length s 0 es)) (omega (arith, rw e at (F .refused-left)))
+      let r : room ≡ feed before (linesAt s es) = rw e at (F .room-left) in
+      let k : refused ≡ refusals before (linesAt s es) = omega (arith, rw e at (F .refused-left)) in
+      let m : i ≡ length (linesAt s es) = n ∙ sym (lines-length s 0 es) in
+      record { room-is = r; lines-are = m; refused-are = k; idle = λ out. (r ∙ feed-idle before out (linesAt s es), k ∙ refusals-idle before out (linesAt s es) ∙ sym m) }
 
 -- ---- two desks
 

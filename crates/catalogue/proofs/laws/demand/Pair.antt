@@ -87,23 +87,16 @@ Below (some d) v = version d < v
 module _ (l : List ℕ) where
   -- ---- an E line
 
-  over-held-joined : (h : Option (List ℕ)) → heldAfter (overHeld l h) l h ≡ joined h l
+  over-held-after : (d h : Option (List ℕ)) → (heldAfter (overHeld l h) l h ≡ joined h l) × (deletionAfter (overHeld l h) l d ≡ d)
   unfolding overHeld
-  over-held-joined none = refl
-  over-held-joined (some x) =
-      pick-by (λ (e : Deed). heldAfter e l (some x) ≡ joined (some x) l) (ltb (version l) (version x)) (Leave outdated) (pick (sameBytes l x) (Leave repeated) (Hold replaced))
-      (λ t. sym (later-above x l (ltb-true (version l) (version x) t)))
+  over-held-after d none = (refl, refl)
+  over-held-after d (some x) =
+      pick-by (λ (e : Deed). (heldAfter e l (some x) ≡ joined (some x) l) × (deletionAfter e l d ≡ d)) (ltb (version l) (version x)) (Leave outdated) (pick (sameBytes l x) (Leave repeated) (Hold replaced))
+      (λ t. (sym (later-above x l (ltb-true (version l) (version x) t)), refl))
       (λ t.
       let v : version x ≤ version l = ltb-false (version l) (version x) t in
-      pick-by (λ (e : Deed). heldAfter e l (some x) ≡ joined (some x) l) (sameBytes l x) (Leave repeated) (Hold replaced)
-      (λ s. sym (later-within x l v ∙ ap some (same-is l x s))) (λ s. sym (later-within x l v)))
-
-  over-held-kept : (d h : Option (List ℕ)) → deletionAfter (overHeld l h) l d ≡ d
-  unfolding overHeld
-  over-held-kept d none = refl
-  over-held-kept d (some x) =
-      pick-by (λ (e : Deed). deletionAfter e l d ≡ d) (ltb (version l) (version x)) (Leave outdated) (pick (sameBytes l x) (Leave repeated) (Hold replaced)) (λ t. refl)
-      (λ t. pick-by (λ (e : Deed). deletionAfter e l d ≡ d) (sameBytes l x) (Leave repeated) (Hold replaced) (λ s. refl) (λ s. refl))
+      pick-by (λ (e : Deed). (heldAfter e l (some x) ≡ joined (some x) l) × (deletionAfter e l d ≡ d)) (sameBytes l x) (Leave repeated) (Hold replaced)
+      (λ s. (sym (later-within x l v ∙ ap some (same-is l x s)), refl)) (λ s. (sym (later-within x l v), refl)))
 
   -- where the line is above the deletes
   joined-above : (e d : Option (List ℕ)) → Below d (version l) → joined (heldFor e d) l ≡ heldFor (joined e l) d
@@ -129,18 +122,13 @@ module _ (l : List ℕ) where
 
   -- ---- a DE line
 
-  over-deleted-held : (h : Option (List ℕ)) → heldAfter (overDeleted (version l) h) l h ≡ heldFor h (some l)
+  over-deleted-after : (d h : Option (List ℕ))
+      → (heldAfter (overDeleted (version l) h) l h ≡ heldFor h (some l)) × (deletionAfter (overDeleted (version l) h) l d ≡ some (deletion l (version l)))
   unfolding overDeleted
-  over-deleted-held none = sym (held-nothing (some l))
-  over-deleted-held (some x) =
-      pick-by (λ (e : Deed). heldAfter e l (some x) ≡ heldFor (some x) (some l)) (leb (version x) (version l)) (Wipe (version l)) (Note (version l))
-      (λ t. sym (held-within x l (leb-true (version x) (version l) t))) (λ t. sym (held-above x l (leb-false (version x) (version l) t)))
-
-  over-deleted-noted : (d h : Option (List ℕ)) → deletionAfter (overDeleted (version l) h) l d ≡ some (deletion l (version l))
-  unfolding overDeleted
-  over-deleted-noted d none = refl
-  over-deleted-noted d (some x) =
-      pick-by (λ (e : Deed). deletionAfter e l d ≡ some (deletion l (version l))) (leb (version x) (version l)) (Wipe (version l)) (Note (version l)) (λ t. refl) (λ t. refl)
+  over-deleted-after d none = (sym (held-nothing (some l)), refl)
+  over-deleted-after d (some x) =
+      pick-by (λ (e : Deed). (heldAfter e l (some x) ≡ heldFor (some x) (some l)) × (deletionAfter e l d ≡ some (deletion l (version l)))) (leb (version x) (version l)) (Wipe (version l)) (Note (version l))
+      (λ t. (sym (held-within x l (leb-true (version x) (version l) t)), refl)) (λ t. (sym (held-above x l (leb-false (version x) (version l) t)), refl))
 
   held-twice : (e d : Option (List ℕ)) → Below d (version l) → heldFor (heldFor e d) (some l) ≡ heldFor e (some l)
   held-twice e none h = simp held-none
@@ -179,19 +167,18 @@ PairAfter l deed x y e d = (heldAfter deed l (heldFor x y) ≡ heldFor e d) × (
 module _ (l : List ℕ) (e : Option (List ℕ)) where
   pub event-pair : (d : Option (List ℕ)) → Own (key l) d → PairAfter l (decide event l (deletionFor d) (heldFor e d)) e d (joined e l) d
   unfolding decide covered deletionFor
-  event-pair none o = (over-held-joined l (heldFor e none) ∙ joined-above l e none tt, over-held-kept l none (heldFor e none))
+  event-pair none o = let a = over-held-after l none (heldFor e none) in (a .0 ∙ joined-above l e none tt, a .1)
   event-pair (some y) o =
       let v = own-version (key l) y o in
       pick-by (λ (t : Deed). PairAfter l t e (some y) (joined e l) (some y)) (leb (version l) (deletionVersion (deletion y (version y)))) (Leave outdated) (overHeld l (heldFor e (some y)))
       (λ t. (joined-within l e y (omega (arith, v, leb-true (version l) (deletionVersion (deletion y (version y))) t)), refl))
-      (λ t. (
-        over-held-joined l (heldFor e (some y)) ∙ joined-above l e (some y) (omega (arith, v, leb-false (version l) (deletionVersion (deletion y (version y))) t)),
-        over-held-kept l (some (deletion y (version y))) (heldFor e (some y)),
-      ))
+      (λ t.
+      let a = over-held-after l (some (deletion y (version y))) (heldFor e (some y)) in
+      (a .0 ∙ joined-above l e (some y) (omega (arith, v, leb-false (version l) (deletionVersion (deletion y (version y))) t)), a .1))
 
   pub delete-pair : Acceptable l → (d : Option (List ℕ)) → Own (key l) d → PairAfter l (decide delete l (deletionFor d) (heldFor e d)) e d e (joined d l)
   unfolding decide covered deletionFor
-  delete-pair a none o = (over-deleted-held l (heldFor e none) ∙ held-twice l e none tt, over-deleted-noted l none (heldFor e none))
+  delete-pair a none o = let b = over-deleted-after l none (heldFor e none) in (b .0 ∙ held-twice l e none tt, b .1)
   delete-pair a (some y) o =
       let v = own-version (key l) y o in
       pick-by (λ (t : Deed). PairAfter l t e (some y) e (joined (some y) l)) (leb (version l) (deletionVersion (deletion y (version y)))) (Leave outdated) (overDeleted (version l) (heldFor e (some y)))
@@ -199,7 +186,6 @@ module _ (l : List ℕ) (e : Option (List ℕ)) where
       let w : version l ≤ version y = omega (arith, v, leb-true (version l) (deletionVersion (deletion y (version y))) t) in
       (joined-held l e y w, joined-deletion l a y o w))
       (λ t.
-      let w : version y < version l = omega (arith, v, leb-false (version l) (deletionVersion (deletion y (version y))) t) in (
-        over-deleted-held l (heldFor e (some y)) ∙ held-twice l e (some y) w ∙ sym (ap (heldFor e) (joined-new l (some y) w)),
-        over-deleted-noted l (some (deletion y (version y))) (heldFor e (some y)) ∙ sym (ap deletionFor (joined-new l (some y) w)),
-      ))
+      let w : version y < version l = omega (arith, v, leb-false (version l) (deletionVersion (deletion y (version y))) t) in
+      let b = over-deleted-after l (some (deletion y (version y))) (heldFor e (some y)) in
+      (b .0 ∙ held-twice l e (some y) w ∙ sym (ap (heldFor e) (joined-new l (some y) w)), b .1 ∙ sym (ap deletionFor (joined-new l (some y) w))))

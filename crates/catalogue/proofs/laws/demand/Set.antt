@@ -80,33 +80,27 @@ module _ (S : List ℕ → Type 0) where
 
 -- ---- only the acceptable lines count
 
-delete-kept : delete ≡ refused → ⊥
-delete-kept e = let z : _≡_ {A = ℕ} 0 1 = cc in omega arith
-
-event-kept : event ≡ refused → ⊥
-event-kept e = let z : _≡_ {A = ℕ} 0 1 = cc in omega arith
-
-carried : (S U : List ℕ → Type 0) → ((x : List ℕ) → Acceptable x → S x → U x) → {t : Kind} {k : ℕ} {x : List ℕ} → (t ≡ refused → ⊥) → Of S t k x → Of U t k x
-carried S U f {x = x} n o = record { inside = f x (λ (r : kind x ≡ refused). n (sym (o .is-kind) ∙ r)) (o .inside); is-kind = o .is-kind; is-key = o .is-key }
+carried : (S U : List ℕ → Type 0) → ((x : List ℕ) → Acceptable x → S x → U x) → {t : Kind} {k : ℕ} {x : List ℕ} → Acceptable x → Of S t k x → Of U t k x
+carried S U f {x = x} a o = record { inside = f x a (o .inside); is-kind = o .is-kind; is-key = o .is-key }
 
 module _ (S U : List ℕ → Type 0) (same : (x : List ℕ) → Acceptable x → S x ↔ U x) where
-  to : {t : Kind} {k : ℕ} {x : List ℕ} → (t ≡ refused → ⊥) → Of S t k x → Of U t k x
+  to : {t : Kind} {k : ℕ} {x : List ℕ} → Acceptable x → Of S t k x → Of U t k x
   to = carried S U (λ (x : List ℕ) (a : Acceptable x). same x a .0)
 
-  from : {t : Kind} {k : ℕ} {x : List ℕ} → (t ≡ refused → ⊥) → Of U t k x → Of S t k x
-  from = carried U S (λ (x : List ℕ) (a : Acceptable x). same x a .1)
+  from-delete : {k : ℕ} (x : List ℕ) → Of U delete k x → Of S delete k x
+  from-delete x o = carried U S (λ (x : List ℕ) (a : Acceptable x). same x a .1) (delete-ok x (o .is-kind)) o
+
+  from-event : {k : ℕ} (x : List ℕ) → Of U event k x → Of S event k x
+  from-event x o = carried U S (λ (x : List ℕ) (a : Acceptable x). same x a .1) (event-ok x (o .is-kind)) o
 
   deletion-same : (k : ℕ) (o : Option (List ℕ)) → DeletionIs S k o → DeletionIs U k o
-  deletion-same k none g = λ (x : List ℕ) (o : Of U delete k x). g x (from delete-kept o)
-  deletion-same k (some d) g = (g .0, to delete-kept (g .1), g .2, λ (x : List ℕ) (o : Of U delete k x). g .3 x (from delete-kept o))
+  deletion-same k none g = λ (x : List ℕ) (o : Of U delete k x). g x (from-delete x o)
+  deletion-same k (some d) g = (g .0, to (delete-ok (g .0) (g .1 .is-kind)) (g .1), g .2, λ (x : List ℕ) (o : Of U delete k x). g .3 x (from-delete x o))
 
   held-same : (k : ℕ) (o : Option (List ℕ)) → HeldIs S k o → HeldIs U k o
-  held-same k none h = λ (x : List ℕ) (o : Of U event k x). let r = h x (from event-kept o) in (r .0, to delete-kept (r .1), r .2)
-  held-same k (some e) h = (
-    to event-kept (h .0),
-    λ (x : List ℕ) (o : Of U event k x). h .1 x (from event-kept o),
-    λ (x : List ℕ) (o : Of U delete k x). h .2 x (from delete-kept o),
-  )
+  held-same k none h = λ (x : List ℕ) (o : Of U event k x). let r = h x (from-event x o) in (r .0, to (delete-ok (r .0) (r .1 .is-kind)) (r .1), r .2)
+  held-same k (some e) h =
+      (to (event-ok e (h .0 .is-kind)) (h .0), λ (x : List ℕ) (o : Of U event k x). h .1 x (from-event x o), λ (x : List ℕ) (o : Of U delete k x). h .2 x (from-delete x o))
 
   pub same-set : (c : Catalogue) → IsCatalogueOf S c → IsCatalogueOf U c
   same-set c I = record {

@@ -3,7 +3,7 @@ use Prim.Native.Nat.{ℕ, _+_, _-_, _≤_}
 use mathlib.Core.Path.{_≡_, refl, sym, _∙_, ap, subst}
 use mathlib.Core.List.{List, [], _++_, append-assoc, append-nil}
 use native.Mathlib.Omega.{arith}
-use lib.ListN.{length, take, drop, replicate, length-append, length-replicate, replicate-append-replicate}
+use lib.ListN.{length, drop, replicate, length-append, length-replicate, replicate-append-replicate}
 use lib.Seq.{take-at, drop-at}
 use Rattle.catalogue.specs.Section.{count, flat, laid, said, capacity}
 use Rattle.catalogue.specs.Catalogue.{Catalogue, empty, parts, fromParts, onlyHeld, named}
@@ -35,9 +35,6 @@ module _ (c : Catalogue) (g : Good c) (z : List ℕ) where
   pub encoded-rest : drop roomSize (encode c ++ z) ≡ z
   encoded-rest = drop-at (encode c) z roomSize encode-length
 
-  encoded-front : take roomSize (encode c ++ z) ≡ encode c
-  encoded-front = take-at (encode c) z roomSize encode-length
-
 -- and is in order, whatever follows it
 pub encoded-ordered : (c : Catalogue) → Good c → (z : List ℕ) → Ordered (encode c ++ z)
 unfolding inOrder
@@ -45,7 +42,7 @@ encoded-ordered c g z =
     let e : contents (encode c) ≡ c = ap contents (sym (append-nil (encode c))) ∙ encoded-contents c g [] in
     record {
       long = simp length-append (omega (arith, encode-length c g z));
-      fine = rw (encoded-front c g z, e, good-back c g) (same-self (encode c));
+      fine = rw (take-at (encode c) z roomSize (encode-length c g z), e, good-back c g) (same-self (encode c));
     }
 
 -- a zeroed room is that of an empty catalogue

@@ -20,7 +20,7 @@ use Rattle.catalogue.specs.Entries.{entriesOf, entryKey, Inside}
 use Rattle.catalogue.specs.Places.{endOf, heldIn, deletionsIn}
 use Rattle.catalogue.specs.Keys.{two}
 use Rattle.catalogue.specs.Zeros.{allZero}
-use Rattle.catalogue.proofs.laws.assoc.Tests.{and-both, asc-of}
+use Rattle.catalogue.proofs.laws.assoc.Tests.{and-both, pick-by, picked, unpicked, asc-of}
 use Rattle.catalogue.proofs.laws.section.Rows.{entries-length}
 use Rattle.catalogue.proofs.laws.section.Laid.{used, laid-length, laid-said}
 use Rattle.catalogue.proofs.laws.step.Good.{Tests, tests-of, tests-good, good-of, good-fits}
@@ -38,11 +38,7 @@ PairsOf s n = n ≡ pick (inOrder s) (named (contents s)) 513
 
 module _ (s : List ℕ) (len : length s ≡ roomSize) where
   refused : (inOrder s ≡ true → ⊥) → PairsOf s 513
-  refused h = by-test (inOrder s) h
-    where
-      by-test : (b : Bool) → (b ≡ true → ⊥) → 513 ≡ pick b (named (contents s)) 513
-      by-test true n = absurd (n refl)
-      by-test false n = refl
+  refused h = pick-by (λ (n : ℕ). 513 ≡ n) (inOrder s) (named (contents s)) 513 (λ e. absurd (h e)) (λ e. refl)
 
   as-ordered : inOrder s ≡ true → Ordered s
   as-ordered e = record { long = omega (arith, len); fine = ap inOrder (take-all roomSize s (omega (arith, len))) ∙ e }
@@ -127,11 +123,7 @@ module _ {s : List ℕ} {held deletions : Section} (S : Sections s held deletion
     module _ (a : ascends (entryKey deletions) 0 (entriesOf deletions s) ≡ true) (b : ascends (entryKey held) 0 (entriesOf held s) ≡ true)
         (d : every deletionOk (entriesOf deletions s) ≡ true) (low : deletions .count + k ≤ 512) where
       held-all : (every (heldOk (entriesOf deletions s)) (entriesOf held s) ≡ true) × (k ≡ length (onlyHeld (entriesOf deletions s) (entriesOf held s)))
-      held-all = by-test (every (heldOk (entriesOf deletions s)) (entriesOf held s)) counted
-        where
-          by-test : (t : Bool) → k ≡ pick t (length (onlyHeld (entriesOf deletions s) (entriesOf held s))) 513 → (t ≡ true) × (k ≡ length (onlyHeld (entriesOf deletions s) (entriesOf held s)))
-          by-test true e = (refl, e)
-          by-test false e = let y : ⊥ = omega arith in absurd y
+      held-all = picked (every (heldOk (entriesOf deletions s)) (entriesOf held s)) counted (λ (e : k ≡ 513). omega arith)
 
       good-contents : good (contents s) ≡ true
       unfolding named
@@ -194,29 +186,23 @@ module _ (r : List ℕ) (long : 46596 ≤ length r) where
   front-length = ap length front-is ∙ length-take-le roomSize r (omega (arith, room-size))
 
   module _ {n : ℕ} (counted : PairsOf (take (46596 - 0) (drop 0 r)) n) where
-    front-counted : (b : Bool) → inOrder (take roomSize r) ≡ b → n ≡ pick b (named (contents (take roomSize r))) 513
-    front-counted b e = subst (λ (s : List ℕ). PairsOf s n) front-is counted ∙ ap (λ (t : Bool). pick t (named (contents (take roomSize r))) 513) e
+    front-counted : PairsOf (take roomSize r) n
+    front-counted = subst (λ (s : List ℕ). PairsOf s n) front-is counted
+
+    front-picked : n ≤ 512 → (inOrder (take roomSize r) ≡ true) × (n ≡ named (contents (take roomSize r)))
+    front-picked h = picked (inOrder (take roomSize r)) front-counted (λ (e : n ≡ 513). omega arith)
 
     to-ordered : inOrder (take roomSize r) ≡ true → Ordered r
     to-ordered e = record { long = omega (arith, room-size); fine = e }
 
     pub front-ordered : n ≤ 512 → Ordered r
-    front-ordered h = by-test (inOrder (take roomSize r)) refl
-      where
-        by-test : (b : Bool) → inOrder (take roomSize r) ≡ b → Ordered r
-        by-test true e = to-ordered e
-        by-test false e = absurd (omega (arith, front-counted false e))
+    front-ordered h = to-ordered (front-picked h .0)
 
     pub front-disordered : 512 < n → inOrder (take roomSize r) ≡ false
-    front-disordered h = by-test (inOrder (take roomSize r)) refl
-      where
-        by-test : (b : Bool) → inOrder (take roomSize r) ≡ b → inOrder (take roomSize r) ≡ false
-        by-test true e =
-            let o : Ordered r = to-ordered e in
-            let y : ⊥ = omega (arith, front-counted true e, ap named (same-contents r o), view-good r o .few) in
-            absurd y
-        by-test false e = e
+    front-disordered h =
+        unpicked (inOrder (take roomSize r)) 513 front-counted (λ (e : inOrder (take roomSize r) ≡ true) (q : n ≡ named (contents (take roomSize r))).
+        omega (arith, ap named (same-contents r (to-ordered e)), view-good r (to-ordered e) .few))
 
     -- and then the number is right
     pub front-named : n ≤ 512 → n ≡ named (contents r)
-    front-named h = let o : Ordered r = front-ordered h in front-counted true (o .fine) ∙ sym (ap named (same-contents r o))
+    front-named h = front-picked h .1 ∙ sym (ap named (same-contents r (front-ordered h)))

@@ -6,6 +6,7 @@ use mathlib.Core.List.{List, [], _∷_}
 use mathlib.Core.Option.{Option, none, some}
 use native.Mathlib.Numerals.{add-one}
 use native.Mathlib.Omega.{arith}
+use Rattle.catalogue.proofs.laws.assoc.Tests.{picked, unpicked}
 use borrow.Author.Tests.{eq-eqb}
 use lib.Dec.{ltb, eqb}
 use lib.ListN.{length, take, drop, getD, drop-of-length-le}
@@ -26,7 +27,7 @@ use Rattle.catalogue.specs.Places.{heldIn, deletionsIn}
 use Rattle.catalogue.proofs.laws.section.Rows.{entry-length, entry-part}
 use Rattle.catalogue.proofs.laws.section.Search.{asc-at, below-grows, every-more, every-stop, every-end}
 use Rattle.catalogue.proofs.laws.section.Seek.{sought-find, sought-as}
-use Rattle.catalogue.proofs.laws.step.Names.{only-cons, only-one, only-zero}
+use Rattle.catalogue.proofs.laws.step.Names.{only-cons, only-none, only-some}
 use Rattle.catalogue.proofs.laws.room.Places.{held-key, deletion-key}
 use Rattle.formats.specs.Cube as cube
 
@@ -63,9 +64,9 @@ weightBy none v = 2
 weightBy (some d) v = pick (ltb (getD d 10 0) v) 1 0
 
 weighed : (D : List (List ℕ)) (x : List ℕ) → isEventLine x ≡ true → (o : Option (List ℕ)) → find deletionKey (key x) D ≡ o → weightOf D x ≡ weightBy o (getD x 12 0)
-unfolding heldOk aboveDeletion version deletionVersion
-weighed D x e none f = rw (sym (event-line x) ∙ e, f, ← only-one D x f)
-weighed D x e (some d) f = rw (sym (event-line x) ∙ e, f, ← only-zero D x d f)
+unfolding heldOk aboveDeletion version deletionVersion onlyHeld
+weighed D x e none f = rw (sym (event-line x) ∙ e, only-none D x [] f, f)
+weighed D x e (some d) f = rw (sym (event-line x) ∙ e, only-some D x [] d f, f)
 
 module _ (s : List ℕ) {held deletions : Section} (eh : held ≡ heldIn s) (ed : deletions ≡ deletionsIn s) where
   deletion-keyed : entryKey deletions ≡ deletionKey
@@ -96,15 +97,11 @@ weight-refused D x e = rw (sym (event-line x) ∙ e)
 
 -- ---- the walk over the held lines
 
-module _ (key : List ℕ → ℕ) where
-  asc-step : (xs : List (List ℕ)) (b i : ℕ) → AscFrom key b xs → suc i < length xs → key (getD xs i []) < key (getD xs (suc i) [])
-  asc-step [] b i a h = absurd (omega arith)
-  asc-step (x ∷ xs) b zero a h = asc-at key xs (suc (key x)) 0 (a .1) (omega arith)
-  asc-step (x ∷ xs) b (suc i) a h = asc-step xs (suc (key x)) i (a .1) (omega arith)
-
-  -- the next key of an ascending list is above
-  asc-next : (xs : List (List ℕ)) (b i : ℕ) → AscFrom key b xs → i + 1 < length xs → key (getD xs i []) < key (getD xs (i + 1) [])
-  asc-next xs b i a h = rw add-one (asc-step xs b i a (omega arith))
+-- the next key of an ascending list is above
+asc-next : (key : List ℕ → ℕ) (xs : List (List ℕ)) (b i : ℕ) → AscFrom key b xs → suc i < length xs → key (getD xs i []) < key (getD xs (suc i) [])
+asc-next key [] b i a h = absurd (omega arith)
+asc-next key (x ∷ xs) b zero a h = asc-at key xs (suc (key x)) 0 (a .1) (omega arith)
+asc-next key (x ∷ xs) b (suc i) a h = asc-next key xs (suc (key x)) i (a .1) (omega arith)
 
 -- the first i held lines are fine, k of them have no deletion, and the first j deletions are before the next line's key
 pub record Walk (D H : List (List ℕ)) (k i j : ℕ) : Type 0 where
@@ -113,15 +110,6 @@ pub record Walk (D H : List (List ℕ)) (k i j : ℕ) : Type 0 where
   pub fine : every (heldOk D) H ≡ every (heldOk D) (drop i H)
   pub counted : k + length (onlyHeld D (drop i H)) ≡ length (onlyHeld D H)
   pub passed : i < length H → j ≤ below deletionKey (key (getD H i [])) D
-
--- a weight is 0, or one more than the line counts
-weighed-none : (t : Bool) (n r : ℕ) → r ≡ pick t (1 + n) 0 → r ≡ 0 → t ≡ false
-weighed-none true n r e f = let y : ⊥ = omega arith in absurd y
-weighed-none false n r e f = refl
-
-weighed-some : (t : Bool) (n r : ℕ) → r ≡ pick t (1 + n) 0 → (r ≡ 0 → ⊥) → (t ≡ true) × (r - 1 ≡ n)
-weighed-some true n r e f = (refl, omega arith)
-weighed-some false n r e f = absurd (f e)
 
 pub walk-start : (D H : List (List ℕ)) → Walk D H 0 0 0
 walk-start D H = record { within = omega arith; few = omega arith; fine = refl; counted = omega arith; passed = λ (h : 0 < length H). omega arith }
@@ -136,17 +124,17 @@ module _ {D H : List (List ℕ)} {k i j : ℕ} (w : Walk D H k i j) where
   module _ (h : i < length H) {t : ℕ} (weight : t ≡ weightOf D (getD H i [])) where
     pub walk-stop : t ≡ 0 → 513 ≡ pick (every (heldOk D) H) (length (onlyHeld D H)) 513
     walk-stop e =
-        let f : heldOk D (getD H i []) ≡ false = weighed-none (heldOk D (getD H i [])) (length (onlyHeld D (getD H i [] ∷ []))) t weight e in
+        let f : heldOk D (getD H i []) ≡ false = unpicked (heldOk D (getD H i [])) 0 weight (λ u v. omega arith) in
         sym (rw (w .fine ∙ every-stop (heldOk D) H i h f))
 
     pub walk-more : AscFrom key 0 H → (t ≡ 0 → ⊥) → t ≤ 2 → {n : ℕ} → n ≡ below deletionKey (key (getD H i [])) D → Walk D H (k + (t - 1)) (i + 1) n
     walk-more asc nonzero low e =
-        let f = weighed-some (heldOk D (getD H i [])) (length (onlyHeld D (getD H i [] ∷ []))) t weight nonzero in
+        let f = picked (heldOk D (getD H i [])) weight nonzero in
         let d : drop i H ≡ getD H i [] ∷ drop (i + 1) H = rw (add-one, drop-cons H i [] h) in
         record {
           within = omega arith;
           few = omega (arith, w .few);
           fine = w .fine ∙ every-more (heldOk D) H i h (f .0);
           counted = omega (arith, w .counted, f .1, ap (λ (l : List (List ℕ)). length (onlyHeld D l)) d, only-cons D (getD H i []) (drop (i + 1) H));
-          passed = λ (g : i + 1 < length H). omega (arith, below-grows deletionKey D (key (getD H i [])) (key (getD H (i + 1) [])) (omega (arith, asc-next key H 0 i asc g)));
+          passed = λ (g : i + 1 < length H). omega (arith, below-grows deletionKey D (key (getD H i [])) (key (getD H (i + 1) [])) (rw add-one (omega (arith, asc-next key H 0 i asc (omega arith)))));
         }

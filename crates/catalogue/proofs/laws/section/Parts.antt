@@ -14,11 +14,10 @@ use Rattle.catalogue.specs.Room.{roomOf}
 use Rattle.catalogue.specs.Splice.{spliced, counted}
 use Rattle.catalogue.specs.Entries.{Sought, RoomFor}
 use Rattle.catalogue.specs.Moves.{entryAt, putIn, takenOut}
-use Rattle.catalogue.proofs.laws.section.Wide.{Wide, Fits}
 use Rattle.catalogue.proofs.laws.section.Laid.{flat-length, count-length, laid-length, used-fits}
 use Rattle.catalogue.proofs.laws.section.RowMoves.{lay, insert-row, replace-row, remove-row, splice-length, rest-length}
 use Rattle.catalogue.proofs.laws.section.Seek.{put-missing, put-found, remove-found}
-use Rattle.catalogue.proofs.laws.section.Put.{put-wide, remove-wide}
+use Rattle.catalogue.proofs.laws.section.Wide.{Wide, Fits, put-wide, remove-wide}
 
 -- the section stands behind the front ones, with as many entries as xs and of their size
 pub record Stands (of : Section) (front : List Part) (w : ℕ) (xs : List (List ℕ)) : Type 0 where

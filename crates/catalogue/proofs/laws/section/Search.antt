@@ -107,10 +107,6 @@ module _ (key : List ℕ → ℕ) (xs : List (List ℕ)) where
   unfolding ascends
   asc-end i b h = rw (drop-of-length-le xs {i = i} h)
 
-  pub asc-none : length xs ≡ 0 → ascends key 0 xs ≡ true
-  unfolding ascends
-  asc-none h = asc-end 0 0 (omega arith)
-
 -- a test of every entry, from the i-th on
 module _ (p : List ℕ → Bool) (xs : List (List ℕ)) where
   pub every-more : (i : ℕ) → i < length xs → p (getD xs i []) ≡ true → every p (drop i xs) ≡ every p (drop (i + 1) xs)

@@ -11,9 +11,7 @@ use Rattle.catalogue.specs.Splice.{opened, spliced}
 module _ (r : List ℕ) (at used w : ℕ) (fits : used + w ≤ length r) where
   pub opened-start : r ≡ opened r at used w used
   unfolding opened
-  opened-start =
-      let e : used - used ≡ 0 = omega arith in
-      rw e (sym (take-append-drop (used + w) r))
+  opened-start = let e : used - used ≡ 0 = omega arith in rw e (sym (take-append-drop (used + w) r))
 
   opened-byte : (i : ℕ) → suc i ≤ used → getD (opened r at used w (suc i)) i 0 ≡ getD r i 0
   unfolding opened

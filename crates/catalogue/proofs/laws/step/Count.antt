@@ -51,12 +51,9 @@ module _ (c : Catalogue) (l : List ℕ) where
     names-after u p q = u (sym (done-deletion-other c l (deedOf c l) (deed-fair c l) z n) ∙ p) (sym (done-held-other c l (deedOf c l) z n) ∙ q)
 
   module _ (G : Good c) where
-    after-good : Good (step c l .after)
-    after-good = step-good c G l
-
     pub named-known : Names c (key l) → named (step c l .after) ≡ named c
     named-known u =
-        let G′ = after-good in
+        let G′ = step-good c G l in
         omega (
           arith,
           named-no-more c (step c l .after) (G′ .held-ascends) (G′ .deletion-ascends) (key l) names-before (λ (w : Names (step c l .after) (key l)). u),
@@ -65,7 +62,7 @@ module _ (c : Catalogue) (l : List ℕ) where
 
     pub named-new : find deletionKey (key l) (c .deletions) ≡ none → find key (key l) (c .held) ≡ none → Changes (deedOf c l) → named (step c l .after) ≡ suc (named c)
     named-new p q u =
-        let G′ = after-good in
+        let G′ = step-good c G l in
         let d : Catalogue = step c l .after in
         omega (
           arith,

@@ -126,14 +126,11 @@ module _ (c : Catalogue) (G : Good c) where
             let r = found key (c .held) z m in let u : _≡_ {A = ℕ} 0 1 = cc (r .1) in omega arith))),
       )
 
-  deletion-few : length (c .deletions) ≤ named c
-  unfolding named
-  deletion-few = omega arith
-
   pub good-fits : Fits (parts c)
+  unfolding named
   good-fits = (
     (wide 80 (c .held) (λ (h : List ℕ) (m : List·Memᴰ h (c .held)). event-length h (held-at h m .0)), omega (arith, held-few, G .few)),
-    ((wide 11 (c .deletions) (λ (d : List ℕ) (m : List·Memᴰ d (c .deletions)). deletion-wide d (deletion-at d m)), omega (arith, deletion-few, G .few)), tt),
+    ((wide 11 (c .deletions) (λ (d : List ℕ) (m : List·Memᴰ d (c .deletions)). deletion-wide d (deletion-at d m)), omega (arith, G .few)), tt),
   )
 
 pub empty-good : Good empty

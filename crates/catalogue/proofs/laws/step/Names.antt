@@ -45,14 +45,6 @@ module _ (deletions : List (List ℕ)) where
           | inr r ↦ rw (only-some hs (r .0) (r .1), only-some [] (r .0) (r .1)) (omega arith)
         ]
 
-    pub only-one : find deletionKey (key h) deletions ≡ none → 1 ≡ length (onlyHeld deletions (h ∷ []))
-    unfolding onlyHeld
-    only-one e = sym (ap length (only-none [] e))
-
-    pub only-zero : (d : List ℕ) → find deletionKey (key h) deletions ≡ some d → 0 ≡ length (onlyHeld deletions (h ∷ []))
-    unfolding onlyHeld
-    only-zero d e = sym (ap length (only-some [] d e))
-
   only-asc : (hs : List (List ℕ)) (b : ℕ) → AscFrom key b hs → AscFrom key b (onlyHeld deletions hs)
   unfolding onlyHeld
   only-asc [] b s = tt

@@ -16,9 +16,4 @@ returns c =
     key-pair (d .args .source .now) (d .args .identifier .now) (d .pre .0) (d .pre .1) _ (c .before .word2 .ensures .0) (c .word8 .ensures .0)
 
 pub key-by-spec : {M : Type 1} → statement M
-key-by-spec =
-    tie.close
-    (tie.spec
-    word2-requires
-    word8-requires
-    returns)
+key-by-spec = tie.close (tie.spec word2-requires word8-requires returns)

@@ -12,7 +12,7 @@ use Rattle.catalogue.specs.Good.{ascends}
 use Rattle.catalogue.specs.Entries.{entriesOf, entryKey}
 use Rattle.formats.proofs.laws.Tri.{tri, less, same, more}
 use Rattle.catalogue.proofs.laws.section.Rows.{entries-length}
-use Rattle.catalogue.proofs.laws.section.Search.{asc-start, asc-more, asc-stop, asc-end, asc-none}
+use Rattle.catalogue.proofs.laws.section.Search.{asc-start, asc-more, asc-stop, asc-end}
 
 abbrev Inv-loop : tie.InvT-loop
 Inv-loop s of i₀ i =
@@ -73,7 +73,7 @@ returns-2 c =
     elim (tri 0 (a .of .count)) [
       | less h ↦
           sym (l .inv .1 h ∙ asc-end (entryKey (a .of)) (entriesOf (a .of) (a .s .now)) (l .i) (suc (entryKey (a .of) (getD (entriesOf (a .of) (a .s .now)) (l .i - 1) []))) (omega (arith, c .if1 .left)))
-      | same h ↦ sym (asc-none (entryKey (a .of)) (entriesOf (a .of) (a .s .now)) (omega arith))
+      | same h ↦ sym (asc-end (entryKey (a .of)) (entriesOf (a .of) (a .s .now)) 0 0 (omega arith))
       | more h ↦ absurd (omega arith)
     ]
 

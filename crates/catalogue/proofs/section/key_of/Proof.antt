@@ -33,5 +33,4 @@ returns c =
     c .key-at .ensures ∙ rw (c .before .before .before .entry-at .ensures) (entry-key (d .args .of) (d .args .s .now) (d .pre .0) (d .args .i) (d .pre .1))
 
 pub key-of-spec : {M : Type 1} → statement M
-key-of-spec =
-    tie.close (tie.spec entry-at-requires add-key-at add-key-at-2 key-at-requires returns)
+key-of-spec = tie.close (tie.spec entry-at-requires add-key-at add-key-at-2 key-at-requires returns)
