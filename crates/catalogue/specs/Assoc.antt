@@ -1,4 +1,5 @@
 -- Lists of entries that ascend strictly by a number, their key: looking up, storing, removing. The order of every section of a room.
+-- Document 01, "The catalogue".
 use Rattle.columns.specs.Answer.{pick}
 use Prim.Native.Nat.{ℕ, suc, _≤_}
 use mathlib.Core.List.{List, [], _∷_}

@@ -1,4 +1,5 @@
 -- Two lists of lines with the same acceptable lines, and what is asked of them: the premises of demand 3.
+-- Document 01, "The catalogue".
 use Prim.Native.Nat.{ℕ, _≤_}
 use mathlib.Core.Path.{_≡_}
 use mathlib.Core.Logic.{_↔_}

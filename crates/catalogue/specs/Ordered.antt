@@ -1,4 +1,4 @@
--- A room that is long enough and in order.
+-- A room that is long enough and in order. Document 01, "The catalogue", in order.
 use Prim.Native.Nat.{ℕ, _≤_}
 use mathlib.Core.Path.{_≡_}
 use mathlib.Core.Bool.{true}

@@ -1,4 +1,4 @@
--- Where the sections of a room stand, by the counts that its bytes say.
+-- Where the sections of a room stand, by the counts that its bytes say. Document 01, "The catalogue".
 use Prim.Native.Nat.{ℕ, _+_, _*_}
 use mathlib.Core.List.{List}
 use Rattle.catalogue.specs.Keys.{two}

@@ -1,4 +1,4 @@
--- Bytes that are all zero.
+-- Bytes that are all zero, as those after the last section. Document 01, "The catalogue".
 use Prim.Native.Nat.{ℕ}
 use mathlib.Core.Bool.{Bool, true, _&&_}
 use mathlib.Core.List.{List, [], _∷_}
