@@ -7,9 +7,13 @@
 #include <time.h>
 
 #define ROOM ROTMIBEL_ROOM
-#define PAIRS 512
-#define HELD 80
-#define GONE 11
+#define PAIRS ROTMIBEL_MOST_PAIRS
+#define LINKS ROTMIBEL_MOST_LINKS
+#define HELD ROTMIBEL_EVENT_LINE
+#define GONE ROTMIBEL_DELETION_ENTRY
+#define LINK ROTMIBEL_LINK_ENTRY
+#define LONGEST ROTMIBEL_LINE
+#define PARTS 15 /* an LI line's type begins after this column */
 
 /* ---- plain C, as a careful engineer would write it */
 
@@ -62,15 +66,34 @@ static uint64_t event_refusal(const uint8_t *p) {
     return 0;
 }
 
-static uint64_t line_refusal(const uint8_t *p, size_t n, int *event) {
-    if (n < 2) return answered(1, 0);
-    *event = p[0] == 'E' && p[1] == ' ';
-    if (!*event && !(p[0] == 'D' && p[1] == 'E')) return answered(3, 1);
-    if (*event) return n == 80 ? event_refusal(p) : answered(1, 0);
-    if (n < 13 || n > 80) return answered(1, 0);
+/* the lowest barred byte, brackets barred in columns 3 to the last of the version: 0, or its refusal */
+static uint64_t barred_refusal(const uint8_t *p, size_t n, size_t names_end) {
     for (size_t i = 0; i < n; i++)
-        if (!text(p[i]) || (i >= 2 && i <= 12 && !name(p[i]))) return answered(2, (unsigned)i + 1);
+        if (!text(p[i]) || (i >= 2 && i < names_end && !name(p[i]))) return answered(2, (unsigned)i + 1);
     return 0;
+}
+
+static uint64_t delete_refusal(const uint8_t *p, size_t n) {
+    return n < 13 || n > 80 ? answered(1, 0) : barred_refusal(p, n, 13);
+}
+
+static uint64_t link_refusal(const uint8_t *p, size_t n) {
+    if (n < 20 || n > LONGEST) return answered(1, 0);
+    uint64_t r = barred_refusal(p, n, 14);
+    if (r) return r;
+    const uint8_t *type = p + PARTS, *end = p + n, *a = memchr(type, ' ', (size_t)(end - type));
+    if (type[-1] != ' ' || !a || a == type || a > type + 16) return answered(6, PARTS);
+    const uint8_t *address = a + 1, *b = memchr(address, ' ', (size_t)(end - address));
+    return !b || b == address || b + 1 == end || b[1] == ' ' ? answered(6, PARTS) : 0;
+}
+
+static inline int is(const uint8_t *p, const char *type) { return p[0] == type[0] && p[1] == type[1]; }
+
+static uint64_t line_refusal(const uint8_t *p, size_t n) {
+    if (n < 2) return answered(1, 0);
+    if (is(p, "E ")) return n == HELD ? event_refusal(p) : answered(1, 0);
+    if (is(p, "DE")) return delete_refusal(p, n);
+    return is(p, "LI") ? link_refusal(p, n) : answered(3, 1);
 }
 
 /* A pair as two numbers that compare as its bytes do. */
@@ -85,42 +108,76 @@ static inline pair line_pair(const uint8_t *line) { return (pair){two(line + 10)
 static inline pair gone_pair(const uint8_t *gone) { return (pair){two(gone), eight(gone + 2)}; }
 static inline int below(pair a, pair b) { return a.source != b.source ? a.source < b.source : a.identifier < b.identifier; }
 
+/* The order of two links by source, identifier, type. A type ends at a blank, which is below every byte of a type, so a shorter type
+   comes before one that it begins. */
+static int link_order(const uint8_t *a, const uint8_t *b) {
+    pair p = line_pair(a), q = line_pair(b);
+    if (below(p, q)) return -1;
+    if (below(q, p)) return 1;
+    size_t i = PARTS;
+    while (a[i] == b[i] && a[i] != ' ') i++;
+    return a[i] - b[i];
+}
+
+static int zeros(const uint8_t *p, size_t n) { return n == 0 || (p[0] == 0 && !memcmp(p, p + 1, n - 1)); }
+
+/* The sections of a room whose counts are in order: their entries and how many there are, and the place after them. */
+typedef struct { uint8_t *held, *gone, *links, *end; unsigned n, m, k; } sections;
+
+static int sections_of(const uint8_t *room, sections *s) {
+    s->held = (uint8_t *)room + 2;
+    s->n = two(room);
+    if (s->n > PAIRS) return 0;
+    s->gone = s->held + HELD * s->n + 2;
+    s->m = two(s->gone - 2);
+    if (s->m > PAIRS) return 0;
+    s->links = s->gone + GONE * s->m + 2;
+    s->k = two(s->links - 2);
+    if (s->k > LINKS) return 0;
+    s->end = s->links + LINK * s->k;
+    return 1;
+}
+
+static int links_in_order(const sections *s) {
+    for (unsigned i = 0; i < s->k; i++) {
+        const uint8_t *line = s->links + LINK * i + 1;
+        size_t n = line[-1];
+        if (n < 2 || !is(line, "LI") || link_refusal(line, n) || !zeros(line + n, LONGEST - n)) return 0;
+        if (i && link_order(line - LINK, line) >= 0) return 0;
+    }
+    return 1;
+}
+
 /* The pairs named in a room of ROOM bytes, or -1 if it is not in order. */
-static int pairs_named(const uint8_t *room) {
-    unsigned n = two(room);
-    if (n > PAIRS) return -1;
-    const uint8_t *held = room + 2;
-    unsigned m = two(held + HELD * n);
-    if (m > PAIRS) return -1;
-    const uint8_t *gone = held + HELD * n + 2;
-    for (unsigned j = 0; j < m; j++) {
-        const uint8_t *d = gone + GONE * j;
+static int pairs_named(const uint8_t *room, sections *s) {
+    if (!sections_of(room, s)) return -1;
+    for (unsigned j = 0; j < s->m; j++) {
+        const uint8_t *d = s->gone + GONE * j;
         for (int i = 0; i < GONE; i++)
             if (!name(d[i])) return -1;
         if (j && !below(gone_pair(d - GONE), gone_pair(d))) return -1;
     }
     unsigned both = 0, j = 0;
-    for (unsigned i = 0; i < n; i++) {
-        const uint8_t *line = held + HELD * i;
+    for (unsigned i = 0; i < s->n; i++) {
+        const uint8_t *line = s->held + HELD * i;
         pair p = line_pair(line);
         if (i && !below(line_pair(line - HELD), p)) return -1;
-        if (line[0] != 'E' || line[1] != ' ' || event_refusal(line)) return -1;
-        while (j < m && below(gone_pair(gone + GONE * j), p)) j++;
-        if (j < m && !below(p, gone_pair(gone + GONE * j))) {
-            if (line[12] <= gone[GONE * j + 10]) return -1;
+        if (!is(line, "E ") || event_refusal(line)) return -1;
+        while (j < s->m && below(gone_pair(s->gone + GONE * j), p)) j++;
+        if (j < s->m && !below(p, gone_pair(s->gone + GONE * j))) {
+            if (line[12] <= s->gone[GONE * j + 10]) return -1;
             both++;
         }
     }
-    if (n + m - both > PAIRS) return -1;
-    const uint8_t *rest = gone + GONE * m;
-    size_t left = (size_t)(room + ROOM - rest);
-    if (left && (rest[0] || memcmp(rest, rest + 1, left - 1))) return -1;
-    return (int)(n + m - both);
+    unsigned named = s->n + s->m - both;
+    if (named > PAIRS || !links_in_order(s) || !zeros(s->end, (size_t)(room + ROOM - s->end))) return -1;
+    return (int)named;
 }
 
 static uint64_t plain_in_order(const uint8_t *room, size_t len) {
+    sections s;
     if (len < ROOM) return answered(11, 0);
-    return pairs_named(room) < 0 ? answered(13, 0) : 0;
+    return pairs_named(room, &s) < 0 ? answered(13, 0) : 0;
 }
 
 /* The first of n rows whose pair is not below p; *found says whether it is p's. */
@@ -146,17 +203,49 @@ static unsigned find_gone(const uint8_t *rows, unsigned n, pair p, int *found) {
 
 static void put_two(uint8_t *p, unsigned n) { p[0] = (uint8_t)(n >> 8); p[1] = (uint8_t)n; }
 
+/* Opens a gap of an entry's size for one more entry of a section, whose count is at `count`. */
+static void open_gap(uint8_t *at, size_t size, uint8_t *end, uint8_t *count) {
+    memmove(at + size, at, (size_t)(end - at));
+    put_two(count, two(count) + 1);
+}
+
+static void put_link(uint8_t *entry, const uint8_t *line, size_t n) {
+    entry[0] = (uint8_t)n;
+    memcpy(entry + 1, line, n);
+    memset(entry + 1 + n, 0, LONGEST - n);
+}
+
+static uint64_t take_link(const sections *s, const uint8_t *line, size_t n) {
+    unsigned lo = 0, hi = s->k;
+    while (lo < hi) {
+        unsigned mid = (lo + hi) / 2;
+        if (link_order(s->links + LINK * mid + 1, line) < 0) lo = mid + 1; else hi = mid;
+    }
+    uint8_t *entry = s->links + LINK * lo;
+    if (lo < s->k && link_order(entry + 1, line) == 0) {
+        if (two(entry + 13) > two(line + 12)) return answered(23, 0);
+        if (entry[0] == n && !memcmp(entry + 1, line, n)) return answered(22, 0);
+        put_link(entry, line, n);
+        return answered(21, 0);
+    }
+    if (s->k == LINKS) return answered(16, 0);
+    open_gap(entry, LINK, s->end, s->links - 2);
+    put_link(entry, line, n);
+    return answered(20, 0);
+}
+
 static uint64_t plain_take(uint8_t *room, size_t len, const uint8_t *line, size_t line_len) {
+    sections s;
     if (len < ROOM) return answered(11, 0);
-    int pairs = pairs_named(room), event;
+    int pairs = pairs_named(room, &s);
     if (pairs < 0) return answered(13, 0);
-    uint64_t r = line_refusal(line, line_len, &event);
+    uint64_t r = line_refusal(line, line_len);
     if (r) return r;
-    unsigned n = two(room), m = two(room + 2 + HELD * n);
-    uint8_t *held = room + 2, *gone = held + HELD * n + 2, *end = gone + GONE * m, v = line[12];
+    if (is(line, "LI")) return take_link(&s, line, line_len);
+    int event = is(line, "E "), is_held, is_gone;
+    uint8_t v = line[12];
     pair p = line_pair(line);
-    int is_held, is_gone;
-    uint8_t *h = held + HELD * find_held(held, n, p, &is_held), *g = gone + GONE * find_gone(gone, m, p, &is_gone);
+    uint8_t *h = s.held + HELD * find_held(s.held, s.n, p, &is_held), *g = s.gone + GONE * find_gone(s.gone, s.m, p, &is_gone);
     if (!event && v == ' ') {
         if (!is_held) return answered(26, 0);
         v = h[12];
@@ -170,33 +259,32 @@ static uint64_t plain_take(uint8_t *room, size_t len, const uint8_t *line, size_
             memcpy(h, line, HELD);
             return answered(21, 0);
         }
-        memmove(h + HELD, h, (size_t)(end - h));
+        open_gap(h, HELD, s.end, room);
         memcpy(h, line, HELD);
-        put_two(room, n + 1);
         return answered(20, 0);
     }
     if (!is_gone) {
-        memmove(g + GONE, g, (size_t)(end - g));
+        open_gap(g, GONE, s.end, s.gone - 2);
         memcpy(g, line + 10, 2);
         memcpy(g + 2, line + 2, 8);
-        put_two(gone - 2, m + 1);
-        end += GONE;
+        s.end += GONE;
     }
     g[10] = v;
     if (!is_held || h[12] > v) return answered(25, 0);
-    memmove(h, h + HELD, (size_t)(end - h - HELD));
-    memset(end - HELD, 0, HELD);
-    put_two(room, n - 1);
+    memmove(h, h + HELD, (size_t)(s.end - h - HELD));
+    memset(s.end - HELD, 0, HELD);
+    put_two(room, s.n - 1);
     return answered(24, 0);
 }
 
 static uint64_t plain_look_up(const uint8_t *room, size_t len, const uint8_t *source, size_t source_len, const uint8_t *identifier,
                               size_t identifier_len) {
+    sections s;
     if (len < ROOM) return answered(11, 0);
-    if (pairs_named(room) < 0) return answered(13, 0);
+    if (pairs_named(room, &s) < 0) return answered(13, 0);
     if (source_len != 2 || identifier_len != 8) return answered(1, 0);
     int found;
-    unsigned at = find_held(room + 2, two(room), (pair){two(source), eight(identifier)}, &found);
+    unsigned at = find_held(s.held, s.n, (pair){two(source), eight(identifier)}, &found);
     return found ? 27 | (uint64_t)at << 24 : 28;
 }
 
@@ -260,22 +348,38 @@ static size_t make_delete(uint8_t *l, unsigned k, uint8_t version) {
     return n;
 }
 
-/* A line damaged in one of several ways, not all of which make it a refused one; its length. The line has 128 places. */
+/* An acceptable LI line of one of six types; its length. */
+static size_t make_link(uint8_t *l, unsigned k, uint8_t version) {
+    static const char *const types[6] = {"f", "fm", "fmx", "map", "~", "sixteen-bytes-it"};
+    static const char *const texts[4] = {"delete", "delete:", "a page", "delete "};
+    size_t n = (size_t)sprintf((char *)l + PARTS, "%s http://whatever/%0*u %s", types[next(6)], (int)next(40), k, texts[next(4)]) + PARTS;
+    memcpy(l, "LI", 2);
+    put_name(l, k, version);
+    l[13] = (uint8_t)"01 ~"[next(4)];
+    l[14] = ' ';
+    if (!next(3)) for (size_t end = next(4) ? n + next(LONGEST + 1 - (unsigned)n) : LONGEST; n < end; n++) l[n] = (uint8_t)(32 + next(95));
+    return n;
+}
+
+/* A line damaged in one of several ways, not all of which make it a refused one; its length. */
+#define PLACES 300
 static size_t damage(uint8_t *l, size_t n) {
     const field *f = &fields[next(19)];
-    unsigned kind = next(9);
+    unsigned kind = next(11);
     switch (kind) {
     case 0: case 1: l[next((unsigned)n)] = (uint8_t)next(256); break;
-    case 2: l[next((unsigned)n)] = next(2) ? '[' : ']'; break;
+    case 2: l[next(2) ? 2 + next(14) : next((unsigned)n)] = next(2) ? '[' : ']'; break;
+    case 9: l[next((unsigned)n)] = ' '; break;
+    case 10: { unsigned at = next((unsigned)n); memmove(l + at + 1, l + at, n - at); l[at] = ' '; n++; break; }
     case 3: if (n == 80) memset(l + f->col - 1, ' ', f->width); break;
     case 4: case 5:
         if (n == 80) for (int i = 0; i < f->width; i++) l[f->col - 1 + i] = (uint8_t)"0123456789-+ ."[next(kind == 4 ? 10 : 14)];
         break;
     case 6: if (n == 80) put_number(l + f->col - 1, f->width, next(2) ? f->hi + (int)next(2) : f->lo - (int)next(2), '0'); break;
-    case 7: memset(l + n, ' ', 128 - n); n = next(3) ? next(100) : n + 1 - 2 * next(2); break;
-    default: l[next(2)] = (uint8_t)"ED L\n"[next(5)];
+    case 7: memset(l + n, ' ', PLACES - n); n = next(3) ? next(next(2) ? 100 : PLACES) : n + 1 - 2 * next(2); break;
+    default: l[next(2)] = (uint8_t)"ED LI\n"[next(6)];
     }
-    if (kind && n == 80 && l[0] == 'E' && l[1] == ' ') seal(l);
+    if (kind && n == 80 && is(l, "E ")) seal(l);
     return n;
 }
 
@@ -283,7 +387,7 @@ static size_t damage(uint8_t *l, size_t n) {
 
 #define TAIL 60     /* bytes past a room, which no call may change */
 #define KEPT 40
-static uint8_t ours[ROOM + TAIL], plain[ROOM + TAIL], before[ROOM + TAIL], kept[KEPT][ROOM], full[ROOM];
+static uint8_t ours[ROOM + TAIL], plain[ROOM + TAIL], before[ROOM + TAIL], kept[KEPT][ROOM], full[ROOM], linked[ROOM];
 static unsigned kept_rooms, takes, look_ups, rooms, answers[256], looked[256], judged[256];
 
 static void show(const char *what, const uint8_t *p, size_t n) {
@@ -354,17 +458,19 @@ static void keep(void) { if (kept_rooms < KEPT) memcpy(kept[kept_rooms++], plain
 static size_t some_line(uint8_t *l, unsigned k, unsigned version) {
     unsigned turn = next(40);
     uint8_t v = (uint8_t)(turn < 4 ? ' ' : turn == 4 ? '~' - next(3) : version + next(6));
-    size_t n = 80;
-    if (next(5) < 3) make_event(l, k, v, next(3)); else n = make_delete(l, k, v);
+    size_t n = HELD;
+    unsigned kind = next(6);
+    if (kind < 3) make_event(l, k, v, next(3));
+    else n = kind < 5 ? make_delete(l, k, v) : make_link(l, k, v);
     return next(6) ? n : damage(l, n);
 }
 
 /* Takes into one room: `fill` pairs named at first, then `count` lines of `pairs` pairs. */
 static void compare_takes(unsigned count, unsigned pairs, unsigned fill) {
-    uint8_t l[128];
+    uint8_t l[PLACES];
     empty_rooms();
     for (unsigned k = 0; k < fill; k++) {
-        if (k % 4) { make_event(l, k, '2', k % 3); both_take(l, 80, ROOM); }
+        if (k % 4) { make_event(l, k, '2', k % 3); both_take(l, HELD, ROOM); }
         else both_take(l, make_delete(l, k, '1'), ROOM);
     }
     for (unsigned i = 0; i < count; i++) {
@@ -383,31 +489,38 @@ static void compare_takes(unsigned count, unsigned pairs, unsigned fill) {
     both_in_order(ROOM);
 }
 
-/* Rooms of 512 pairs: held lines, deletions, or both with the held lines above. */
-static void fill_rooms(int with_held, int with_gone) {
-    uint8_t l[128];
+/* Rooms of 512 pairs: held lines, deletions, or both with the held lines above; and with as many links as there can be, and one more. */
+static void fill_rooms(int with_held, int with_gone, int with_links) {
+    uint8_t l[PLACES];
     empty_rooms();
     for (unsigned i = 0; i < PAIRS; i++) {
         unsigned k = i * 5 % PAIRS;
         if (with_gone) both_take(l, make_delete(l, k, '1'), ROOM);
-        if (with_held) { make_event(l, k, '2', k); both_take(l, 80, ROOM); }
+        if (with_held) { make_event(l, k, '2', k); both_take(l, HELD, ROOM); }
+        if (with_links && i <= LINKS) both_take(l, make_link(l, k, '1'), ROOM);
     }
     both_in_order(ROOM);
     keep();
 }
 
+/* A byte made one of the likely ones, or one more or less. */
+static void change(uint8_t *p, const uint8_t *likely, unsigned n) { *p = next(2) ? likely[next(n)] : (uint8_t)(*p + 1 - 2 * next(2)); }
+
 /* A kept room with one byte or count changed, at times the check character of the held line that was hit made good; or with a byte
-   repeated after its entries, or a held line's type made DE. */
+   repeated after its entries, or the type of a held line or link made DE. */
 static void compare_damaged(void) {
     static const uint8_t likely[] = {0, 1, ' ', '0', '1', '2', '~', 127, '[', ']', 128, 255};
     const uint8_t *from = kept[next(kept_rooms)];
-    uint8_t l[128];
+    uint8_t l[PLACES];
     empty_rooms();
     memcpy(plain, from, ROOM);
-    unsigned n = two(plain), m = two(plain + 2 + HELD * n), g = 4 + HELD * n, used = g + GONE * m, at;
-    switch (next(8)) {
-    case 0: put_two(plain + (next(2) ? 0 : g - 2), next(2) ? next(515) : next(65536)); break;
-    case 1: { unsigned c = next(2) ? 0 : g - 2; put_two(plain + c, two(plain + c) + 1 - 2 * next(2)); break; }
+    sections s;
+    sections_of(plain, &s);
+    unsigned used = (unsigned)(s.end - plain);
+    uint8_t *count = next(3) ? next(2) ? plain : s.gone - 2 : s.links - 2, *p;
+    switch (next(11)) {
+    case 0: put_two(count, next(2) ? next(next(2) ? 67 : 515) : next(65536)); break;
+    case 1: put_two(count, two(count) + 1 - 2 * next(2)); break;
     case 2:
         if (!next(4)) plain[ROOM - 1] = (uint8_t)next(3);
         else if (!next(4)) memset(plain + used, (int)next(3), ROOM - used);
@@ -415,17 +528,21 @@ static void compare_damaged(void) {
         break;
     case 3: plain[next(ROOM)] = (uint8_t)next(256); break;
     case 4: case 5:
-        if (m == 0) break;
-        at = g + GONE * next(m) + (next(2) ? 9 + next(2) : next(GONE));
-        plain[at] = next(2) ? likely[next(sizeof likely)] : (uint8_t)(plain[at] + 1 - 2 * next(2));
+        if (s.m == 0) break;
+        change(s.gone + GONE * next(s.m) + (next(2) ? 9 + next(2) : next(GONE)), likely, sizeof likely);
+        break;
+    case 6: case 7: case 8:
+        if (s.k == 0) break;
+        p = s.links + LINK * next(s.k);
+        if (!next(8)) memcpy(p + 1, "DE", 2);
+        else change(p + (next(3) ? next(next(2) ? 20 : p[0] + 1) : next(LINK)), likely, sizeof likely);
         break;
     default:
-        if (n == 0) break;
-        at = 2 + HELD * next(n);
-        unsigned i = next(2) ? next(80) : 2 + next(11);
-        if (!next(16)) memcpy(plain + at, "DE", 2);
-        else plain[at + i] = next(2) ? likely[next(sizeof likely)] : (uint8_t)(plain[at + i] + 1 - 2 * next(2));
-        if (next(4)) seal(plain + at);
+        if (s.n == 0) break;
+        p = s.held + HELD * next(s.n);
+        if (!next(16)) memcpy(p, "DE", 2);
+        else change(p + (next(2) ? next(HELD) : 2 + next(11)), likely, sizeof likely);
+        if (next(4)) seal(p);
     }
     if (!memcmp(plain, from, ROOM)) return;
     memcpy(ours, plain, ROOM);
@@ -444,12 +561,15 @@ static void compare(void) {
     static const struct { unsigned rooms, count, pairs, fill; } runs[3] = {
         {1000, 100, 4, 0}, {40, 1200, 40, 0}, {4, 2500, 530, 505},
     };
-    static const unsigned due[] = {1, 2, 3, 5, 6, 7, 9, 11, 12, 13, 20, 21, 22, 23, 24, 25, 26};
+    static const unsigned due[] = {1, 2, 3, 5, 6, 7, 9, 11, 12, 13, 16, 20, 21, 22, 23, 24, 25, 26};
     empty_rooms();
     keep();
-    fill_rooms(1, 0);
-    fill_rooms(0, 1);
-    fill_rooms(1, 1);
+    fill_rooms(1, 0, 0);
+    fill_rooms(0, 1, 1);
+    fill_rooms(0, 0, 1);
+    fill_rooms(1, 1, 1);
+    memcpy(linked, plain, ROOM);
+    fill_rooms(1, 1, 0);
     memcpy(full, plain, ROOM);
     for (unsigned r = 0; r < 3; r++)
         for (unsigned i = 0; i < runs[r].rooms; i++) {
@@ -467,7 +587,7 @@ static void compare(void) {
         if (!answers[due[i]]) { printf("no take answered %u\n", due[i]); exit(1); }
 }
 
-/* ---- timing, on the full room */
+/* ---- timing, on a full room with no links and on one with all of them */
 
 #define CALLS 16
 #define ROUNDS 100
@@ -480,6 +600,11 @@ static uint64_t take_plain(unsigned k) { return plain_take(full, ROOM, lines[k *
 static uint64_t take_ours(unsigned k) { return rotmibel_take(full, ROOM, lines[k * 37 % PAIRS], HELD); }
 static uint64_t look_plain(unsigned k) { return plain_look_up(full, ROOM, held(k) + 10, 2, held(k) + 2, 8); }
 static uint64_t look_ours(unsigned k) { return rotmibel_look_up(full, ROOM, held(k) + 10, 2, held(k) + 2, 8); }
+static uint64_t linked_order_plain(unsigned k) { (void)k; return plain_in_order(linked, ROOM); }
+static uint64_t linked_order_ours(unsigned k) { (void)k; return rotmibel_in_order(linked, ROOM); }
+static uint8_t links[LINKS][LINK];
+static uint64_t link_plain(unsigned k) { return plain_take(linked, ROOM, links[k * 37 % LINKS] + 1, links[k * 37 % LINKS][0]); }
+static uint64_t link_ours(unsigned k) { return rotmibel_take(linked, ROOM, links[k * 37 % LINKS] + 1, links[k * 37 % LINKS][0]); }
 
 typedef uint64_t work(unsigned);
 
@@ -509,14 +634,23 @@ static void report(const char *what, work *c, work *library, unsigned answer) {
     printf("  ratio     %9.2f\n", best / best_c);
 }
 
+static void say_room(const char *what, const uint8_t *room) {
+    sections s;
+    int pairs = pairs_named(room, &s);
+    printf("%s: %d pairs, %u held lines, %u deletions below them, %u links; best of %d rounds of %d calls\n", what, pairs, s.n, s.m,
+           s.k, ROUNDS, CALLS);
+}
+
 int main(void) {
     compare();
-    unsigned n = two(full), m = two(full + 2 + HELD * n);
-    printf("a full room: %d pairs, %u held lines, %u deletions below them; best of %d rounds of %d calls\n", pairs_named(full), n,
-           m, ROUNDS, CALLS);
+    say_room("a full room", full);
     for (unsigned i = 0; i < PAIRS; i++) memcpy(lines[i], full + 2 + HELD * i, HELD);
     report("in order", order_plain, order_ours, 0);
     report("checked take of a line that is held (answer 22)", take_plain, take_ours, 22);
     report("look-up of a held pair (answer 27)", look_plain, look_ours, 27);
+    say_room("a full room with links", linked);
+    for (unsigned i = 0; i < LINKS; i++) memcpy(links[i], rotmibel_link_entry(linked, i), LINK);
+    report("in order", linked_order_plain, linked_order_ours, 0);
+    report("checked take of a link that is held (answer 22)", link_plain, link_ours, 22);
     return 0;
 }

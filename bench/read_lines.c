@@ -1,4 +1,4 @@
-/* E lines read through the library's C call, against a plain C reader of the same rules that fills the same record, in one run.
+/* E and LI lines read through the library's C call, against a plain C reader of the same rules that fills the same record, in one run.
    Built and run by bench/run. Both readers are checked to give the same answers and records on every line before anything is timed. */
 #include "rotmibel.h"
 #include <stdio.h>
@@ -38,11 +38,31 @@ static inline int int_field(const uint8_t *p, int w, int32_t *out) {
     return 0;
 }
 
+static uint64_t plain_read_link(const uint8_t *p, size_t n, uint8_t *record) {
+    if (n < 20 || n > ROTMIBEL_LINE) return refused(1, 0);
+    for (size_t i = 0; i < n; i++)
+        if (p[i] < 32 || p[i] > 126 || (i >= 2 && i <= 13 && (p[i] == '[' || p[i] == ']'))) return refused(2, (unsigned)i + 1);
+    const uint8_t *type = p + 15, *end = p + n, *a = memchr(type, ' ', n - 15);
+    if (p[14] != ' ' || !a || a == type || a > type + 16) return refused(6, 15);
+    const uint8_t *address = a + 1, *b = memchr(address, ' ', (size_t)(end - address));
+    if (!b || b == address || b + 1 == end || b[1] == ' ') return refused(6, 15);
+    size_t lengths[3] = {(size_t)(a - type), (size_t)(b - address), (size_t)(end - b - 1)};
+    memset(record, 0, ROTMIBEL_RECORD);
+    record[0] = ROTMIBEL_LINK;
+    for (int k = 0; k < 3; k++) record[ROTMIBEL_LINK_TYPE_LENGTH + k] = (uint8_t)lengths[k];
+    memcpy(record + ROTMIBEL_LINK_IDENTIFIER, p + 2, 12);
+    memcpy(record + ROTMIBEL_LINK_TYPE, type, lengths[0]);
+    memcpy(record + ROTMIBEL_LINK_TYPE + lengths[0], address, lengths[1]);
+    memcpy(record + ROTMIBEL_LINK_TYPE + lengths[0] + lengths[1], b + 1, lengths[2]);
+    return (uint64_t)ROTMIBEL_RECORD << 24;
+}
+
 static uint64_t plain_read(const uint8_t *p, size_t n, uint8_t *record, size_t room) {
     if (room < ROTMIBEL_RECORD) return refused(11, 0);
     if (n < 2) return refused(1, 0);
+    if (p[0] == 'L' && p[1] == 'I') return plain_read_link(p, n, record);
     if (!(p[0] == 'E' && p[1] == ' ')) return refused(3, 1);
-    if (n != 80) return refused(1, 0);
+    if (n != ROTMIBEL_EVENT_LINE) return refused(1, 0);
     uint16_t sum = 0;
     for (int i = 0; i < 79; i++) {
         uint8_t b = p[i];
@@ -75,7 +95,7 @@ static uint64_t plain_read(const uint8_t *p, size_t n, uint8_t *record, size_t r
     return (uint64_t)ROTMIBEL_RECORD << 24;
 }
 
-/* ---- lines: two of document 004 with other numbers, every eighth one damaged */
+/* ---- lines: two of document 004 with other numbers, and links; every eighth one damaged */
 
 static uint32_t state = 12345;
 static unsigned next(unsigned n) { state = state * 1664525u + 1013904223u; return (state >> 8) % n; }
@@ -86,7 +106,9 @@ static void seal(char *l) {
     l[79] = (char)(36 + sum % 91);
 }
 
-static void make(char *l, unsigned k) {
+typedef size_t maker(char *, unsigned);
+
+static size_t make_event(char *l, unsigned k) {
     if (k % 2)
         snprintf(l, 81, "E %08uCI%c%04u%02u%02u%02u%02u%03u%07d%08d%04u%02u%03u%03u%04u%04u%04u%04u%02uL%02u%02uh ", next(100000000), '0' + next(10),
                  1990 + next(40), 1 + next(12), 1 + next(28), next(24), next(60), next(600), (int)next(1800000) - 900000,
@@ -98,46 +120,63 @@ static void make(char *l, unsigned k) {
                  (int)next(3600000) - 1800000, next(999), next(99), next(99), next(99), next(9999), next(999), next(99), next(9));
     seal(l);
     if (k % 8 == 7) l[next(80)] ^= (char)(1 + next(7));
+    return ROTMIBEL_EVENT_LINE;
+}
+
+static size_t make_link(char *l, unsigned k) {
+    static const char *const types[4] = {"fm", "map", "shake", "felt-reports"};
+    static const char *const texts[4] = {"First motions", "delete:", "Map of the intensities that were reported", "A page"};
+    size_t n = (size_t)snprintf(l, ROTMIBEL_LINE + 1, "LI%08uCI%02u %s http://whatever/%u %s", next(100000000), next(100), types[next(4)],
+                                next(1000000), texts[next(4)]);
+    if (k % 8 == 7) l[next((unsigned)n)] ^= (char)(1 + next(127));
+    return n;
 }
 
 static double seconds(void) { struct timespec t; clock_gettime(CLOCK_MONOTONIC, &t); return (double)t.tv_sec + 1e-9 * (double)t.tv_nsec; }
 
 typedef uint64_t reader(const uint8_t *, size_t, uint8_t *, size_t);
-static char lines[LINES][81];
+static char lines[LINES][ROTMIBEL_LINE + 1];
+static size_t lengths[LINES];
 
 static double timed(reader *read, uint64_t *sum) {
     uint8_t record[ROTMIBEL_RECORD];
     double best = 1e9;
     for (int round = 0; round < ROUNDS; round++) {
         double t = seconds();
-        for (int k = 0; k < LINES; k++) { *sum += read((const uint8_t *)lines[k], 80, record, sizeof record); *sum += record[27]; }
+        for (int k = 0; k < LINES; k++) { *sum += read((const uint8_t *)lines[k], lengths[k], record, sizeof record); *sum += record[27]; }
         t = seconds() - t;
         if (t < best) best = t;
     }
     return best;
 }
 
-int main(void) {
+/* Both readers on the same lines: compared, then timed in turn. 1 on a difference. */
+static int measured(const char *what, maker *make) {
     uint8_t a[ROTMIBEL_RECORD], b[ROTMIBEL_RECORD];
     unsigned accepted = 0;
     for (unsigned k = 0; k < LINES; k++) {
-        make(lines[k], k);
+        const uint8_t *line = (const uint8_t *)lines[k];
+        lengths[k] = make(lines[k], k);
         memset(a, 0xee, sizeof a);
         memset(b, 0xee, sizeof b);
-        uint64_t r = rotmibel_read_line((const uint8_t *)lines[k], 80, a, sizeof a);
-        if (r != plain_read((const uint8_t *)lines[k], 80, b, sizeof b) || memcmp(a, b, sizeof a)) {
+        uint64_t r = rotmibel_read_line(line, lengths[k], a, sizeof a);
+        if (r != plain_read(line, lengths[k], b, sizeof b) || memcmp(a, b, sizeof a)) {
             printf("the readers differ on: %s\n", lines[k]);
             return 1;
         }
         accepted += ROTMIBEL_ANSWER(r) == ROTMIBEL_READ;
     }
     uint64_t sum = 0;
-    double c = timed(plain_read, &sum), ours = timed(rotmibel_read_line, &sum), c2 = timed(plain_read, &sum), ours2 = timed(rotmibel_read_line, &sum);
+    double c = timed(plain_read, &sum), ours = timed(rotmibel_read_line, &sum);
+    double c2 = timed(plain_read, &sum), ours2 = timed(rotmibel_read_line, &sum);
     if (c2 < c) c = c2;
     if (ours2 < ours) ours = ours2;
-    printf("E lines read into records: %d lines, %u accepted, best of %d rounds (sum %llu)\n", LINES, accepted, 2 * ROUNDS, (unsigned long long)sum);
+    printf("%s lines read into records: %d lines, %u accepted, best of %d rounds (sum %llu)\n", what, LINES, accepted, 2 * ROUNDS,
+           (unsigned long long)sum);
     printf("  plain C    %7.1f ns a line\n", 1e9 * c / LINES);
     printf("  library    %7.1f ns a line\n", 1e9 * ours / LINES);
     printf("  ratio      %7.2f\n", ours / c);
     return 0;
 }
+
+int main(void) { return measured("E", make_event) || measured("LI", make_link); }

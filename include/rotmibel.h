@@ -43,12 +43,12 @@ extern "C" {
 
 /* Answers. */
 #define ROTMIBEL_READ 0      /* read or written */
-#define ROTMIBEL_BAD_LENGTH 1 /* the line's length, or a delete's text of more than 67 bytes; column 0 */
+#define ROTMIBEL_BAD_LENGTH 1 /* the length of a line, or of the line that a record would make; column 0 */
 #define ROTMIBEL_BARRED 2    /* a byte that may not stand in its column; that column */
-#define ROTMIBEL_TYPE 3      /* neither `E ` nor `DE`; column 1 */
+#define ROTMIBEL_TYPE 3      /* neither `E ` nor `DE` nor `LI`; column 1 */
 #define ROTMIBEL_SEPARATOR 4 /* a separator of a phase line is not blank; its column */
 #define ROTMIBEL_REQUIRED 5  /* a required field is blank or missing; its first column */
-#define ROTMIBEL_FORM 6      /* a field of bad form, its first column; or bytes that are no record, column 0 */
+#define ROTMIBEL_FORM 6      /* a field of bad form, its first column; malformed parts of a link, column 15; no record, column 0 */
 #define ROTMIBEL_RANGE 7     /* a number out of its range; the field's first column */
 #define ROTMIBEL_LETTER 8    /* not one of the letters that its column may have; that column */
 #define ROTMIBEL_CHECK 9     /* the check character; column 80 */
@@ -58,12 +58,13 @@ extern "C" {
 #define ROTMIBEL_DISORDER 13 /* the room is no catalogue in order; column 0 */
 #define ROTMIBEL_OUT_OF_PLACE 14 /* a block's first line is not the header, or a comment before any phase line; column 0 */
 #define ROTMIBEL_NOT_CLOSED 15   /* a comment that does not end in `)`; column 0 */
+#define ROTMIBEL_LINKS_FULL 16   /* a link of a new source, identifier and type while the catalogue has 64 links; column 0 */
 
 /* Answers of the catalogue: what became of a line, and what a look-up found. */
-#define ROTMIBEL_STORED 20       /* E: nothing was held for its pair, the line is now */
-#define ROTMIBEL_REPLACED 21     /* E: the held line was of a lower version, or of the same with other bytes; it is replaced */
-#define ROTMIBEL_REPEATED 22     /* E: this very line is held; nothing changes */
-#define ROTMIBEL_OUTDATED 23     /* a deletion or a held line is at or above the version; nothing changes */
+#define ROTMIBEL_STORED 20       /* E, LI: nothing was held for its pair, or its source, identifier and type; the line is now */
+#define ROTMIBEL_REPLACED 21     /* E, LI: the held line was of a lower version, or of the same with other bytes; it is replaced */
+#define ROTMIBEL_REPEATED 22     /* E, LI: this very line is held; nothing changes */
+#define ROTMIBEL_OUTDATED 23     /* E, DE: a deletion at or above the version; E, LI: a held line above it; nothing changes */
 #define ROTMIBEL_REMOVED 24      /* DE: the held line is removed, its deletion stored */
 #define ROTMIBEL_NOTED 25        /* DE: nothing held at or below its version; its deletion is stored */
 #define ROTMIBEL_NOTHING_HELD 26 /* DE with a blank version: nothing held; nothing changes */
@@ -77,30 +78,42 @@ extern "C" {
 #define ROTMIBEL_IS_COMMENT 42 /* a comment */
 #define ROTMIBEL_IS_CLOSING 43 /* the closing blank line */
 
-/* Sizes: a CUBE record of either kind, the longest CUBE line, a phase record, a written phase line, a line of a written block with
-   its newline, the longest block, the room of a catalogue. */
+/* Sizes: a CUBE record of any kind, the longest CUBE line, an E line, a phase record, a written phase line, a line of a written block with
+   its newline, the longest block. */
 #define ROTMIBEL_RECORD 268
-#define ROTMIBEL_LINE 80
+#define ROTMIBEL_LINE 255
+#define ROTMIBEL_EVENT_LINE 80
 #define ROTMIBEL_PHASE_RECORD 231
 #define ROTMIBEL_PHASE_LINE 199
 #define ROTMIBEL_BLOCK_LINE 200
 #define ROTMIBEL_BLOCK 65536
-#define ROTMIBEL_ROOM 46596
+
+/* Sizes of a catalogue: its room, the room as it was before links (see below), the most pairs of source and identifier that it names, the
+   most links, an entry of the deletions, an entry of the links. */
+#define ROTMIBEL_ROOM 62982
+#define ROTMIBEL_OLD_ROOM 46596
+#define ROTMIBEL_MOST_PAIRS 512
+#define ROTMIBEL_MOST_LINKS 64
+#define ROTMIBEL_DELETION_ENTRY 11
+#define ROTMIBEL_LINK_ENTRY 256
 
 /* Kinds, a record's first byte. */
 #define ROTMIBEL_EVENT 1
 #define ROTMIBEL_DELETE 2
 #define ROTMIBEL_PHASE 3
+#define ROTMIBEL_LINK 4
 
 /*
- * Read a CUBE line, `E ` or `DE`, into a record.
+ * Read a CUBE line, `E `, `DE` or `LI`, into a record.
  *
  * line, line_len      the line
  * record, record_len  where the record goes: at least ROTMIBEL_RECORD bytes, the first of which are written
  *
  * Answers, looked for in this order: SHORT (record_len, before the line is looked at); BAD_LENGTH (under 2 bytes); TYPE; BAD_LENGTH
- * (not 80 bytes of E, not 13 to 80 of DE); BARRED (the lowest such column); CHECK (E); then the fields of E from left to right, each
- * REQUIRED, FORM, RANGE; else READ, with length ROTMIBEL_RECORD.
+ * (not 80 bytes of E, not 13 to 80 of DE, not 20 to 255 of LI); BARRED (the lowest such column); CHECK (E); then the fields of E from
+ * left to right, each REQUIRED, FORM, RANGE; of LI FORM at column 15, where that column is not blank or type, address and text do not
+ * follow it, parted by one blank each: a type of 1 to 16 bytes and an address, both without blanks, and a text that does not begin with
+ * one; else READ, with length ROTMIBEL_RECORD.
  */
 uint64_t rotmibel_read_line(const uint8_t *line, size_t line_len, uint8_t *record, size_t record_len);
 
@@ -108,10 +121,13 @@ uint64_t rotmibel_read_line(const uint8_t *line, size_t line_len, uint8_t *recor
  * Write a record as a CUBE line. The check character of an E line is computed.
  *
  * record, record_len  the record: its first ROTMIBEL_RECORD bytes
- * line, line_len      where the line goes: at least 80 bytes for an event, 13 and its text for a delete
+ * line, line_len      where the line goes: at least 80 bytes for an event, 13 and its text for a delete, 17 and its type, address and
+ *                     text for a link; ROTMIBEL_LINE bytes do for each
  *
  * Answers, looked for in this order: FORM at column 0 (no record; also fewer bytes than one has); BAD_LENGTH (a delete's text of
- * more than 67 bytes); SHORT; then the fields from left to right, each REQUIRED, BARRED, WIDE, RANGE; else READ, with the line's
+ * more than 67 bytes; a link's line of fewer than 20 or more than 255); SHORT; then of E and DE the fields from left to right, each
+ * REQUIRED, BARRED, WIDE, RANGE; of a link BARRED (the lowest such column of the line that it would be), then FORM at column 15 (a part
+ * that is empty, a type of more than 16 bytes, a blank in type or address, a text that begins with one); else READ, with the line's
  * length. What is written reads back to the same record.
  */
 uint64_t rotmibel_write_line(const uint8_t *record, size_t record_len, uint8_t *line, size_t line_len);
@@ -185,19 +201,23 @@ uint64_t rotmibel_write_record(const uint8_t *record, size_t record_len, uint8_t
  * lines, in any order and with any repeats, are equal byte for byte (docs/PROMISES.md has the premises).
  *
  * A room holds, in this order: the number of held lines (2 bytes, high byte first), the held E lines (80 bytes each), the number of
- * deletions (2 bytes), the deletions (11 bytes each: source, identifier, version), zeros. Both parts ascend by source, then
- * identifier.
+ * deletions (2 bytes), the deletions (11 bytes each: source, identifier, version), the number of links (2 bytes), the links (256 bytes
+ * each: the length of the line, the LI line, zeros), zeros. Held lines and deletions ascend by source, then identifier, links by source,
+ * identifier, type. A link whose text is `delete` or `delete:` says that there is no such page any more; it is kept like the others.
+ *
+ * A room saved before there were links has ROTMIBEL_OLD_ROOM bytes and no third part. Filled with zeros to ROTMIBEL_ROOM bytes it is the
+ * same catalogue, with no links; as it is, each call answers SHORT.
  */
 
 /*
  * Take a line into a catalogue. The whole room is checked first, so any bytes may be handed over.
  *
  * room, room_len  the catalogue
- * line, line_len  an E or DE line
+ * line, line_len  an E, DE or LI line
  *
  * Answers, looked for in this order: SHORT (room_len); DISORDER; the refusals of rotmibel_read_line for the line, with their column;
- * FULL (but not where NOTHING_HELD is the answer); else STORED to NOTHING_HELD. REPEATED, OUTDATED, NOTHING_HELD and refusals change
- * nothing.
+ * FULL (E and DE, but not where NOTHING_HELD is the answer); LINKS_FULL (LI); else STORED to NOTHING_HELD for E and DE, STORED to OUTDATED
+ * for LI. REPEATED, OUTDATED, NOTHING_HELD and refusals change nothing. E and DE lines leave the links as they are, and LI lines the rest.
  */
 uint64_t rotmibel_take(uint8_t *room, size_t room_len, const uint8_t *line, size_t line_len);
 
@@ -212,6 +232,22 @@ uint64_t rotmibel_look_up(const uint8_t *room, size_t room_len, const uint8_t *s
 
 /* Whether a room is a catalogue in order: READ (0), or SHORT or DISORDER. Nothing is changed. */
 uint64_t rotmibel_in_order(const uint8_t *room, size_t room_len);
+
+/* The links of a room that is in order: how many there are, and the entry of link `index` (from 0), a byte with the length of the line and
+   the line. */
+static inline const uint8_t *rotmibel_past(const uint8_t *section, size_t entry) {
+    return section + 2 + entry * ((size_t)section[0] << 8 | section[1]);
+}
+static inline const uint8_t *rotmibel_links_of(const uint8_t *room) {
+    return rotmibel_past(rotmibel_past(room, ROTMIBEL_EVENT_LINE), ROTMIBEL_DELETION_ENTRY);
+}
+static inline size_t rotmibel_link_count(const uint8_t *room) {
+    const uint8_t *links = rotmibel_links_of(room);
+    return (size_t)links[0] << 8 | links[1];
+}
+static inline const uint8_t *rotmibel_link_entry(const uint8_t *room, size_t index) {
+    return rotmibel_links_of(room) + 2 + ROTMIBEL_LINK_ENTRY * index;
+}
 
 /* Whether number `index` (from 0) of an event's record is there. */
 static inline int rotmibel_has_number(const uint8_t *record, unsigned index) { return record[1 + index] != 0; }
@@ -269,6 +305,16 @@ enum rotmibel_phase_number {
 #define ROTMIBEL_DELETE_SOURCE 10
 #define ROTMIBEL_DELETE_VERSION 12
 #define ROTMIBEL_DELETE_TEXT 13
+
+/* Where the parts of a link's record stand: the lengths of type, address and text 1 byte each, identifier 8, source 2, version 2; then
+   type, address and text, one after the other. */
+#define ROTMIBEL_LINK_TYPE_LENGTH 1
+#define ROTMIBEL_LINK_ADDRESS_LENGTH 2
+#define ROTMIBEL_LINK_TEXT_LENGTH 3
+#define ROTMIBEL_LINK_IDENTIFIER 4
+#define ROTMIBEL_LINK_SOURCE 12
+#define ROTMIBEL_LINK_VERSION 14
+#define ROTMIBEL_LINK_TYPE 16
 
 #ifdef __cplusplus
 }

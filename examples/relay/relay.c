@@ -3,7 +3,10 @@
  *
  *   relay take ROOM          takes the lines of standard input into the catalogue in the file ROOM, which is made where there is none
  *   relay find ROOM SS ID    looks up source SS and identifier ID, and prints what is held
+ *   relay links ROOM         prints the links
  *   relay block FILE         reads a phase block and prints its records
+ *
+ * A ROOM of the size that it had before there were links is taken as it is meant, with no links, and saved in today's size.
  *
  * Built with: cc relay.c $(pkg-config --cflags --libs rotmibel)
  */
@@ -29,7 +32,8 @@ static int load(const char *name) {
     if (!f) return 0;
     size_t n = fread(room, 1, sizeof room, f);
     fclose(f);
-    if (n != sizeof room || ROTMIBEL_ANSWER(rotmibel_in_order(room, n)) != ROTMIBEL_READ) {
+    int a_room = n == sizeof room || n == ROTMIBEL_OLD_ROOM; /* behind an old one the room is zero, which is what it wants */
+    if (!a_room || ROTMIBEL_ANSWER(rotmibel_in_order(room, sizeof room)) != ROTMIBEL_READ) {
         fprintf(stderr, "relay: %s holds no catalogue in order\n", name);
         return 1;
     }
@@ -54,6 +58,7 @@ static const char *outcome(unsigned answer) {
     case ROTMIBEL_NOTED: return "deletion noted";
     case ROTMIBEL_NOTHING_HELD: return "nothing held";
     case ROTMIBEL_FULL: return "refused, 512 pairs are named";
+    case ROTMIBEL_LINKS_FULL: return "refused, there are 64 links";
     default: return "refused";
     }
 }
@@ -85,9 +90,9 @@ static int take(const char *name) {
 /* Prints a held line, its magnitude, and the line as the library writes it from the record. */
 static int show(const uint8_t *held) {
     uint8_t record[ROTMIBEL_RECORD], line[ROTMIBEL_LINE];
-    uint64_t r = rotmibel_read_line(held, ROTMIBEL_LINE, record, sizeof record);
+    uint64_t r = rotmibel_read_line(held, ROTMIBEL_EVENT_LINE, record, sizeof record);
     if (ROTMIBEL_ANSWER(r) != ROTMIBEL_READ) return 1;
-    printf("held:    %.80s\n", (const char *)held);
+    printf("held:    %.*s\n", ROTMIBEL_EVENT_LINE, (const char *)held);
     if (rotmibel_has_number(record, ROTMIBEL_MAGNITUDE))
         printf("magnitude %.1f\n", (double)rotmibel_number(record, ROTMIBEL_MAGNITUDE) / 10);
     else
@@ -103,10 +108,35 @@ static int find(const char *name, const char *source, const char *identifier) {
     uint64_t r = rotmibel_look_up(room, sizeof room, (const uint8_t *)source, strlen(source), (const uint8_t *)identifier,
                                   strlen(identifier));
     switch (ROTMIBEL_ANSWER(r)) {
-    case ROTMIBEL_HELD: return show(room + 2 + 80 * ROTMIBEL_LENGTH(r));
+    case ROTMIBEL_HELD: return show(room + 2 + ROTMIBEL_EVENT_LINE * ROTMIBEL_LENGTH(r));
     case ROTMIBEL_NOT_HELD: printf("not held\n"); return 0;
     default: printf("refused: %u\n", ROTMIBEL_ANSWER(r)); return 1;
     }
+}
+
+/* Prints a link by its parts, and says whether it was deleted. */
+static int show_link(const uint8_t *entry) {
+    uint8_t record[ROTMIBEL_RECORD];
+    uint64_t r = rotmibel_read_line(entry + 1, entry[0], record, sizeof record);
+    if (ROTMIBEL_ANSWER(r) != ROTMIBEL_READ) return 1;
+    const char *at = (const char *)record, *type = at + ROTMIBEL_LINK_TYPE;
+    int type_length = record[ROTMIBEL_LINK_TYPE_LENGTH], address_length = record[ROTMIBEL_LINK_ADDRESS_LENGTH];
+    int text_length = record[ROTMIBEL_LINK_TEXT_LENGTH];
+    const char *address = type + type_length, *text = address + address_length;
+    printf("%.2s %.8s version %.2s, %.*s", at + ROTMIBEL_LINK_SOURCE, at + ROTMIBEL_LINK_IDENTIFIER, at + ROTMIBEL_LINK_VERSION,
+           type_length, type);
+    if ((text_length == 6 || text_length == 7) && memcmp(text, "delete:", (size_t)text_length) == 0) printf(": deleted\n");
+    else printf(": %.*s (%.*s)\n", text_length, text, address_length, address);
+    return 0;
+}
+
+static int links(const char *name) {
+    if (load(name)) return 1;
+    size_t n = rotmibel_link_count(room);
+    printf("links: %zu\n", n);
+    for (size_t i = 0; i < n; i++)
+        if (show_link(rotmibel_link_entry(room, i))) return 1;
+    return 0;
 }
 
 static void show_phase(const uint8_t *line, size_t n) {
@@ -149,7 +179,8 @@ static int read_block(const char *name) {
 int main(int argc, char **argv) {
     if (argc == 3 && strcmp(argv[1], "take") == 0) return take(argv[2]);
     if (argc == 5 && strcmp(argv[1], "find") == 0) return find(argv[2], argv[3], argv[4]);
+    if (argc == 3 && strcmp(argv[1], "links") == 0) return links(argv[2]);
     if (argc == 3 && strcmp(argv[1], "block") == 0) return read_block(argv[2]);
-    fprintf(stderr, "usage: relay take ROOM | relay find ROOM SOURCE IDENTIFIER | relay block FILE\n");
+    fprintf(stderr, "usage: relay take ROOM | relay find ROOM SOURCE IDENTIFIER | relay links ROOM | relay block FILE\n");
     return 2;
 }

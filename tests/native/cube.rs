@@ -1,7 +1,14 @@
-//! CUBE lines and their records, after document 01 ("The E line", "The DE line", "Order") and docs/RECORDS.md.
+//! CUBE lines and their records, after document 01 ("The E line", "The DE line", "Order") and docs/RECORDS.md; the LI line is in link.rs.
+use crate::link;
 use crate::number::*;
 
+/// A record of any kind, an E line, and a DE line with no text and with the longest.
 pub const RECORD: usize = 268;
+pub const EVENT_LINE: usize = 80;
+pub const SHORTEST_DELETE: usize = 13;
+pub const LONGEST_DELETE: usize = 80;
+/// The last column of the version of an E or DE line, up to which brackets are barred.
+const NAMES_END: usize = 13;
 
 /// Document 01's table: first column, last column, required, lowest and highest value.
 const NUMBERS: [(usize, usize, bool, i64, i64); 19] = [
@@ -37,13 +44,13 @@ pub fn check_character(bytes: &[u8]) -> u8 {
     36 + (sum % 91) as u8
 }
 
-/// Barred in a column of a CUBE line: no text, or a bracket in columns 3 to 13.
-fn barred(b: u8, column: usize) -> bool {
-    !is_text(b) || ((b == b'[' || b == b']') && (3..=13).contains(&column))
+/// Barred in a column of a CUBE line: no text, or a bracket in columns 3 to the last of the version.
+fn barred(b: u8, column: usize, names_end: usize) -> bool {
+    !is_text(b) || ((b == b'[' || b == b']') && (3..=names_end).contains(&column))
 }
 
-fn lowest_barred(bytes: &[u8], first: usize) -> Option<usize> {
-    (0..bytes.len()).map(|i| first + i).find(|&c| barred(bytes[c - first], c))
+pub fn lowest_barred(bytes: &[u8], first: usize, names_end: usize) -> Option<usize> {
+    (0..bytes.len()).map(|i| first + i).find(|&c| barred(bytes[c - first], c, names_end))
 }
 
 pub fn read_line(line: &[u8]) -> Result<Vec<u8>, Refusal> {
@@ -53,15 +60,16 @@ pub fn read_line(line: &[u8]) -> Result<Vec<u8>, Refusal> {
     match &line[..2] {
         b"E " => read_event(line),
         b"DE" => read_delete(line),
+        b"LI" => link::read_line(line),
         _ => Err((TYPE, 1)),
     }
 }
 
 fn read_event(line: &[u8]) -> Result<Vec<u8>, Refusal> {
-    if line.len() != 80 {
+    if line.len() != EVENT_LINE {
         return Err((LENGTH, 0));
     }
-    if let Some(c) = lowest_barred(&line[..79], 1) {
+    if let Some(c) = lowest_barred(&line[..79], 1, NAMES_END) {
         return Err((BARRED, c));
     }
     if line[79] != check_character(&line[..79]) {
@@ -91,15 +99,15 @@ fn read_event(line: &[u8]) -> Result<Vec<u8>, Refusal> {
 }
 
 fn read_delete(line: &[u8]) -> Result<Vec<u8>, Refusal> {
-    if line.len() < 13 || 80 < line.len() {
+    if line.len() < SHORTEST_DELETE || LONGEST_DELETE < line.len() {
         return Err((LENGTH, 0));
     }
-    if let Some(c) = lowest_barred(line, 1) {
+    if let Some(c) = lowest_barred(line, 1, NAMES_END) {
         return Err((BARRED, c));
     }
     let mut record = vec![0; RECORD];
     record[0] = 2;
-    record[1] = (line.len() - 13) as u8;
+    record[1] = (line.len() - SHORTEST_DELETE) as u8;
     record[2..2 + line.len() - 2].copy_from_slice(&line[2..]);
     Ok(record)
 }
@@ -113,7 +121,8 @@ fn is_record(r: &[u8]) -> bool {
             });
             numbers && r[185..RECORD].iter().all(|&b| b == 0)
         }
-        2 => r[13 + r[1] as usize..RECORD].iter().all(|&b| b == 0),
+        2 => r[SHORTEST_DELETE + r[1] as usize..RECORD].iter().all(|&b| b == 0),
+        link::KIND => link::is_record(r),
         _ => false,
     }
 }
@@ -122,18 +131,18 @@ pub fn write_line(record: &[u8], room: usize) -> Result<Vec<u8>, Refusal> {
     if record.len() < RECORD || !is_record(&record[..RECORD]) {
         return Err((FORM, 0));
     }
-    if record[0] == 1 {
-        write_event(record, room)
-    } else {
-        write_delete(record, room)
+    match record[0] {
+        1 => write_event(record, room),
+        2 => write_delete(record, room),
+        _ => link::write_line(record, room),
     }
 }
 
 fn write_event(record: &[u8], room: usize) -> Result<Vec<u8>, Refusal> {
-    if room < 80 {
+    if room < EVENT_LINE {
         return Err((SHORT, 0));
     }
-    let mut line = vec![b' '; 80];
+    let mut line = vec![b' '; EVENT_LINE];
     line[0] = b'E';
     let mut fields: Vec<(usize, usize, usize)> = Vec::new(); // first, last, which: 0.. numbers, 100.. texts by place
     for (i, f) in NUMBERS.iter().enumerate() {
@@ -149,7 +158,7 @@ fn write_event(record: &[u8], room: usize) -> Result<Vec<u8>, Refusal> {
         let w = last - first + 1;
         let cell = if which >= 1000 {
             let cell = record[which - 1000..which - 1000 + w].to_vec();
-            if let Some(c) = lowest_barred(&cell, first) {
+            if let Some(c) = lowest_barred(&cell, first, NAMES_END) {
                 return Err((BARRED, c));
             }
             cell
@@ -179,16 +188,16 @@ fn write_event(record: &[u8], room: usize) -> Result<Vec<u8>, Refusal> {
 
 fn write_delete(record: &[u8], room: usize) -> Result<Vec<u8>, Refusal> {
     let n = record[1] as usize;
-    if n > 67 {
+    if SHORTEST_DELETE + n > LONGEST_DELETE {
         return Err((LENGTH, 0));
     }
-    if room < 13 + n {
+    if room < SHORTEST_DELETE + n {
         return Err((SHORT, 0));
     }
-    if let Some(c) = lowest_barred(&record[2..13 + n], 3) {
+    if let Some(c) = lowest_barred(&record[2..SHORTEST_DELETE + n], 3, NAMES_END) {
         return Err((BARRED, c));
     }
     let mut line = b"DE".to_vec();
-    line.extend_from_slice(&record[2..13 + n]);
+    line.extend_from_slice(&record[2..SHORTEST_DELETE + n]);
     Ok(line)
 }

@@ -1,9 +1,12 @@
 #!/usr/bin/env python3
-"""Writes the inputs NAME.in of the runs and, from a model of document 01 of its own, what the program has to print, NAME.out.
+"""Writes the inputs NAME.in of the runs and, from a model of its own, what the program has to print, NAME.out.
 
-The model is written from document 01 and shares nothing with the program."""
+The model is written from document 01 and, for links, from document 02, "Take the links"; it shares nothing with the program."""
 import os
 import re
+
+MOST_PAIRS = 512
+MOST_LINKS = 64
 
 # ---- document 01, "The E line": name, first column, last column, required, low, high ("as the column holds" where wide)
 FIELDS = [
@@ -42,9 +45,10 @@ def check_character(line):
 # ---- reading: (number, column), or None for an acceptable line
 
 
-def first_barred(line):
+def first_barred(line, names_end=13):
+    """The lowest column of a byte that is no text, or a bracket in the columns from identifier to version."""
     for column, byte in enumerate(line, 1):
-        if not 32 <= byte <= 126 or (3 <= column <= 13 and byte in b"[]"):
+        if not 32 <= byte <= 126 or (3 <= column <= names_end and byte in b"[]"):
             return column
     return 0
 
@@ -78,6 +82,19 @@ def refused_delete(line):
     return (2, barred) if barred else None
 
 
+# Identifier, source and version; a blank; type, address and text, parted by one blank each.
+LINK = re.compile(rb"LI(?P<identifier>.{8})(?P<source>..)(?P<version>..) (?P<type>[^ ]{1,16}) [^ ]+ (?P<text>[^ ].*)")
+
+
+def refused_link(line):
+    if not 20 <= len(line) <= 255:
+        return (1, 0)
+    barred = first_barred(line, names_end=14)
+    if barred:
+        return (2, barred)
+    return None if LINK.fullmatch(line) else (6, 15)
+
+
 def refused(line):
     if len(line) < 2:
         return (1, 0)
@@ -85,25 +102,30 @@ def refused(line):
         return refused_event(line)
     if line[:2] == b"DE":
         return refused_delete(line)
+    if line[:2] == b"LI":
+        return refused_link(line)
     return (3, 1)
 
 
-# ---- the catalogue: the held line and the deleted version of each pair
+# ---- the catalogue: the held line and the deleted version of each pair, the link of each source, identifier and type
 
 
 class Catalogue:
     def __init__(self):
         self.held = {}
         self.deleted = {}
+        self.links = {}
 
     def full(self, pair):
         named = set(self.held) | set(self.deleted)
-        return pair not in named and len(named) == 512
+        return pair not in named and len(named) == MOST_PAIRS
 
     def take(self, line):
         no = refused(line)
         if no:
             return no
+        if line[:2] == b"LI":
+            return (self.take_link(line), 0)
         pair, version = line[10:12] + line[2:10], line[12]
         if line[:2] == b"E ":
             return (self.take_event(pair, version, line), 0)
@@ -137,6 +159,22 @@ class Catalogue:
             return 24
         return 25
 
+    def take_link(self, line):
+        link = LINK.fullmatch(line)
+        triple = link["source"], link["identifier"], link["type"]
+        before = self.links.get(triple)
+        if before is None:
+            if len(self.links) == MOST_LINKS:
+                return 16
+            self.links[triple] = line
+            return 20
+        if LINK.fullmatch(before)["version"] > link["version"]:
+            return 23
+        if before == line:
+            return 22
+        self.links[triple] = line
+        return 21
+
     def take_blank(self, pair):
         if pair not in self.held:
             return 26
@@ -163,6 +201,10 @@ def printed(data):
     out += [room.held[pair] for pair in sorted(room.held)]
     out.append(b"deleted %d" % len(room.deleted))
     out += [pair + bytes([room.deleted[pair]]) for pair in sorted(room.deleted)]
+    lines = [room.links[triple] for triple in sorted(room.links)]
+    shown = [line for line in lines if LINK.fullmatch(line)["text"] not in (b"delete", b"delete:")]
+    out.append(b"links %d" % len(shown))
+    out += shown
     return b"".join(line + b"\n" for line in out), answers
 
 
@@ -188,12 +230,19 @@ def delete(identifier, source, version, text=""):
     return ("DE" + identifier.ljust(8) + source + version + text).encode("latin-1")
 
 
+def link(identifier, source, version, kind, address, text):
+    """An LI line; the version has two bytes."""
+    return ("LI" + identifier.ljust(8) + source + version + " " + kind + " " + address + " " + text).encode("latin-1")
+
+
+def with_byte(line, column, byte):
+    return line[: column - 1] + bytes([byte]) + line[column:]
+
+
 def changed(line, column, byte):
     """One byte changed, and the check character made right again."""
-    line = bytearray(line)
-    line[column - 1] = byte
-    line[79] = check_character(line[:79])
-    return bytes(line)
+    line = with_byte(line, column, byte)
+    return line[:79] + bytes([check_character(line[:79])])
 
 
 def answers():
@@ -270,6 +319,85 @@ def pairs():
     return b"".join(line + b"\n" for line in lines)
 
 
+def refused_links():
+    """LI lines at the edges of their rules: lengths, barred bytes, parts."""
+    a = link(" 006729", "NC", "01", "fm", "http://whatever/whoknows", "This is a test")
+    short = link("short", "NC", "01", "a", "b", "c")
+    yield from (b"LI", b"L", b"LX" + a[2:], b"li" + a[2:], short[:19], short, a[:13], a[:14], a[:15], a[:19])
+    for n in (234, 235, 236, 237, 238, 1100):
+        yield link(f"long{n}", "NC", "01", "a", "b", "c" * n)
+        yield link(f"wide{n}", "NC", "01", "a", "b" * n, "c")
+    for n in (15, 16, 17, 18, 40):
+        yield link("type", "NC", "01", "t" * n, "http://a/b", "text")
+    # a bracket in each of the columns 2 to 20, alone and with a barred byte further on; other barred bytes
+    for column in range(2, 21):
+        yield with_byte(a, column, 91 if column % 2 else 93)
+        yield with_byte(with_byte(a, 40, 9), column, 93)
+    for column in (3, 12, 13, 14, 15, 16, 18, 19, 43, 44, len(a)):
+        for byte in (9, 31, 127, 128, 255):
+            yield with_byte(a, column, byte)
+    yield a + b"\r"
+    # parts: column 15, one blank too many or too few, nothing left
+    names = a[:14]
+    for rest in (b"_fm http://a text", b" fm http://a", b" fm http://a ", b" fm http://a  ", b" fm", b" fm   ", b"      ",
+                 b"  fm http://a text", b" fm  http://a text", b" fm http://a  text", b" fm http://a text", b" fm http://a text ",
+                 b" fm http://a a  b ", b" seventeen-letters http://a b", b" sixteen--letters http://a b", b"xfm http://a\x7ftext",
+                 b"-" * 30):
+        yield names + rest
+        yield names + rest + b" and some more"
+
+
+def links():
+    a = link(" 006729", "NC", "01", "fm", "http://whatever/whoknows", "This is a test")
+
+    def named(version, text, kind="fm"):
+        return link(" 006729", "NC", version, kind, "http://whatever/whoknows", text)
+
+    lines = [
+        # stored, repeated, replaced by the same version and by a higher one, late
+        a, a, named("01", "This is another test"), a, named("02", "Second"), a, named("02", "Second"), named("00", "late"),
+        named("1 ", "by byte code 1 and blank is above 02"), named("02", "late"), named(" 9", "late"), named("~~", "the highest"),
+        # texts of one version, of which one begins the other
+        named("01", "page", "tour"), named("01", "page and more", "tour"), named("01", "page", "tour"), named("01", "page ", "tour"),
+        # deleted, once more, and back
+        named("01", "delete", "map"), named("01", "delete:", "map"), named("01", "delete:", "map"), named("00", "old", "map"),
+        named("02", "back again", "map"), named("03", "delete", "map"),
+        named("01", "delete", "shake"), named("01", "delete ", "felt"), named("01", "Delete", "felt2"), named("01", "delete: it", "felt3"),
+        named("01", "deleted", "felt4"),
+        # types of which one begins another; brackets and other bytes in them
+        named("01", "x", "f"), named("01", "x", "fmx"), named("01", "x", "fm!"), named("01", "x", "fm~"), named("01", "x", "[fm]"),
+        # E and DE lines of the same pair do not touch its links, nor links them
+        event(" 006729", "NC", "2"), a, delete(" 006729", "NC", "1"), named("01", "while held", "tour"), delete(" 006729", "NC", " "),
+        named("02", "still there", "tour"), event(" 006729", "NC", "2"), event(" 006729", "NC", "3"),
+        delete(" 006729", "NC", "3"), named("01", "late", "tour"),
+        link(" 006729", "CI", "01", "fm", "http://b", "another source"), link("006729", "NC", "01", "fm", "http://b", "another identifier"),
+        link("", "  ", "  ", "!", "!", "!"),
+    ]
+    lines += refused_links()
+    return b"".join(line + b"\n" for line in lines)
+
+
+def triples():
+    """More than 64 triples, last first so that each goes in before the others; then 512 pairs, and both again."""
+    def one(i, version="05", text="more about it"):
+        return link(f"{7000 + i // 3}", ("CI", "NC")[i % 2], version, ("a", "ab", "b")[i % 3], "http://a/b", text)
+
+    lines = [one(i) for i in reversed(range(MOST_LINKS))]
+    lines += [
+        one(MOST_LINKS), one(MOST_LINKS), one(0), one(0, "04"), one(0, "06"), one(1, "05", "other"), one(2, "07", "delete"), one(2),
+        one(2, "08"), one(3, "05", "delete"), one(4, "05", "delete:"), one(MOST_LINKS + 1, "99"), one(MOST_LINKS, "  ", "delete"),
+        b"LI refused",
+    ]
+    for i in range(MOST_PAIRS):
+        lines.append(event(f"{7000 + i}", "CI", "1", second=i) if i % 4 else delete(f"{7000 + i}", "CI", "1"))
+    lines += [
+        event("new", "UW", "1"), link("new", "UW", "01", "fm", "http://a", "b"), delete("new", "UW", "1"), one(5, "09"),
+        one(5, "09"), one(5, "08"), one(MOST_LINKS), delete("new", "UW", " "), event("7001", "CI", "2"),
+        one(MOST_LINKS - 1, "05", "z" * 200),
+    ]
+    return b"".join(line + b"\n" for line in lines)
+
+
 def last():
     return event("meav", "US", "3") + b"\n\n" + delete("09081845", "CI", "2", " EVENT CANCELLED:  (LKH)") + b"\n" + event("meav", "US", "4")
 
@@ -286,8 +414,10 @@ def long():
 
 def main():
     here = os.path.dirname(os.path.abspath(__file__))
-    wanted = {"answers": {1, 2, 3, 5, 6, 7, 9, 20, 21, 22, 23, 24, 25, 26}, "pairs": {12, 26}}
-    for name, data in dict(empty=b"", answers=answers(), pairs=pairs(), last=last(), long=long()).items():
+    wanted = {"answers": {1, 2, 3, 5, 6, 7, 9, 20, 21, 22, 23, 24, 25, 26}, "pairs": {12, 26}, "links": {1, 2, 3, 6, 20, 21, 22, 23},
+              "triples": {12, 16, 20, 21, 22, 23, 26}}
+    runs = dict(empty=b"", answers=answers(), pairs=pairs(), last=last(), long=long(), links=links(), triples=triples())
+    for name, data in runs.items():
         out, numbers = printed(data)
         assert wanted.get(name, set()) <= set(numbers), (name, sorted(set(numbers)))
         for ending, content in ((".in", data), (".out", out)):

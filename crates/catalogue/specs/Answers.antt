@@ -8,6 +8,10 @@ full = 12
 abbrev pub notInOrder : ℕ
 notInOrder = 13
 
+-- a new link while there are 64 (document 02, "Take the links")
+abbrev pub linksFull : ℕ
+linksFull = 16
+
 -- what was taken
 abbrev pub stored : ℕ
 stored = 20

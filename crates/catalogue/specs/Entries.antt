@@ -1,6 +1,7 @@
 -- A section's entries as the code reads them off the bytes, and what a search among them answers.
 use Prim.Native.Nat.{ℕ, _+_, _*_, _≤_, _<_}
 use mathlib.Core.Path.{_≡_}
+use mathlib.Core.Bool.{true}
 use mathlib.Core.List.{List, []}
 use mathlib.Core.Option.{Option, none, some}
 use lib.ListN.{length, drop, getD}
@@ -15,13 +16,14 @@ unfoldable pub entriesOf : Section → List ℕ → List (List ℕ)
 entriesOf of s = rows (of .count) (of .size) (drop (of .at + 2) s)
 
 unfoldable pub entryKey : Section → List ℕ → ℕ
-entryKey of x = keyIn (of .source) (of .identifier) x
+entryKey of x = keyIn (of .typed) (of .source) (of .identifier) x
 
 -- the section lies in the bytes, and a key in its entries
 pub record Inside (of : Section) (s : List ℕ) : Type 0 where
   pub fits : of .at + 2 + of .size * of .count ≤ length s
   pub source : of .source + 2 ≤ of .size
   pub identifier : of .identifier + 8 ≤ of .size
+  pub type : of .typed ≡ true → of .identifier + 29 ≤ of .size
 
 -- found: the place of the key, where it stands; missing: the place where it would stand
 abbrev pub Sought : (List ℕ → ℕ) → ℕ → List (List ℕ) → Seek → Type 0

@@ -13,7 +13,7 @@ use Rattle.catalogue.specs.declared.Call.{Call}
 use Rattle.catalogue.specs.declared.section.Seek.{Seek}
 use Rattle.catalogue.specs.declared.section.Seek.the-variants.{Found, Missing}
 use Rattle.catalogue.specs.declared.decide.Deed.{Deed}
-use Rattle.catalogue.specs.declared.decide.Deed.the-variants.{Leave, Hold, Note, Wipe}
+use Rattle.catalogue.specs.declared.decide.Deed.the-variants.{Leave, Hold, Note, Wipe, Link}
 use Rattle.catalogue.specs.declared.decide.Notice.{Notice}
 use Rattle.catalogue.specs.declared.decide.Notice.the-variants.{Event, Delete, Blank}
 use Rattle.catalogue.specs.declared.decide.Findings.{Findings}
@@ -39,7 +39,7 @@ noticeOf k v = pick (eqb k eventKind) Event (pick (eqb v 32) Blank Delete)
 
 -- the number and column of a refusal
 abbrev pub refusedCall : Read → Call
-refusedCall (There k n) = record { number = 0; column = 0 }
+refusedCall (There k t d n) = record { number = 0; column = 0 }
 refusedCall (Refused n k) = record { number = n; column = k }
 
 -- the pair is in the section
@@ -75,6 +75,7 @@ answered (Leave n) = n
 answered (Hold n) = n
 answered (Note v) = noted
 answered (Wipe v) = removed
+answered (Link n) = n
 
 -- how many pairs are named after it
 abbrev pub oneMore : Seek → Seek → ℕ → ℕ
@@ -87,6 +88,7 @@ namedAfter (Leave m) h d n = n
 namedAfter (Hold m) h d n = oneMore h d n
 namedAfter (Note v) h d n = oneMore h d n
 namedAfter (Wipe v) h d n = oneMore h d n
+namedAfter (Link m) h d n = n
 
 -- a line was taken into a room in order: the call's answer, the room after it, which stays in order, and the pairs named then
 pub record Took (r l after : List ℕ) (t : Receipt) : Type 0 where

@@ -8,6 +8,7 @@ pub mod Taking
 pub mod Room
 pub mod Untouched
 pub mod Ordered
+pub mod Saved
 pub mod LookUp
 pub mod FromSet
 pub mod Lists

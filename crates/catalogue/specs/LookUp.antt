@@ -1,16 +1,15 @@
 -- Looking a pair up: 27 with the place of its held line, from 0, or 28. Document 01, "Numbers answered".
 use Prim.Native.Nat.{ℕ}
-use mathlib.Core.List.{List, _++_}
+use mathlib.Core.List.{List, [], _++_}
 use mathlib.Core.Option.{Option, none, some}
 use lib.Dec.{eqb}
 use lib.ListN.{length, take}
 use Rattle.columns.specs.Answer.{pick}
 use Rattle.formats.specs.Cube.{wrongLength}
-use Rattle.formats.specs.Record.{wordOf}
 use Rattle.catalogue.specs.declared.Looked.{Looked}
 use Rattle.catalogue.specs.Answers.{isHeld, notHeld}
 use Rattle.catalogue.specs.Assoc.{find, below}
-use Rattle.catalogue.specs.Line.{key}
+use Rattle.catalogue.specs.Line.{keyOf, key}
 use Rattle.catalogue.specs.Catalogue.{Catalogue}
 use Rattle.catalogue.specs.Room.{roomSize, contents, checked}
 
@@ -30,5 +29,5 @@ unfoldable pub lookUp : List ℕ → List ℕ → List ℕ → Looked
 lookUp room source identifier =
     checked room (λ (n : ℕ). looked n 0)
     (pick (eqb (length source) 2)
-    (pick (eqb (length identifier) 8) (lookedIn (contents (take roomSize room)) (wordOf 0 (source ++ identifier))) (looked wrongLength 0))
+    (pick (eqb (length identifier) 8) (lookedIn (contents (take roomSize room)) (keyOf (source ++ identifier) [])) (looked wrongLength 0))
     (looked wrongLength 0))

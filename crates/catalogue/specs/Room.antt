@@ -20,7 +20,7 @@ use Rattle.catalogue.specs.Good.{good}
 unfoldable pub roomOf : ℕ → List Part → List ℕ
 roomOf n ps = laid ps ++ replicate (n - length (laid ps)) 0
 
--- a room has the bytes of full sections: 46,596
+-- a room has the bytes of full sections: 62,982
 unfoldable pub roomSize : ℕ
 roomSize = capacity (parts empty)
 

@@ -20,16 +20,17 @@ ghost use Rattle.catalogue.specs.Ordered.{Ordered};
 ghost use Rattle.catalogue.specs.Entries.{entriesOf, entryOf, Inside, placeOf};
 ghost use Rattle.catalogue.specs.Findings.{noticeKind, IsFound, Placed, Known};
 
-// What a line does to its pair: nothing, with an answer; the line is held, with an answer; its deletion becomes a version; its held
-// line goes besides.
+// What a line does: nothing, with an answer; the line is held, with an answer; its pair's deletion becomes a version; its held line goes
+// besides; the line is stored among the links, with an answer.
 pub enum Deed {
     Leave(u8),
     Hold(u8),
     Note(u8),
     Wipe(u8),
+    Link(u8),
 }
 
-// An acceptable line: an event, a delete with a version, a delete with a blank one.
+// An acceptable line about a pair: an event, a delete with a version, a delete with a blank one.
 pub enum Notice {
     Event,
     Delete,
@@ -65,7 +66,7 @@ pub fn look_both(room: &[u8], notice: Notice, line: &[u8]) -> Findings
 {
     let held = held_in(room);
     let deletions = deletions_in(room, held);
-    let key = key_at(line, 10, 2);
+    let key = key_at(line, 10, 2, false);
     let in_held = look(room, held, key);
     if skips(notice, in_held) {
         return Findings {
@@ -149,7 +150,7 @@ fn over_blank(room: &[u8], of: Section, seek: Seek) -> Deed
 // What a line does, by what was found.
 pub fn decide(room: &[u8], f: Findings, notice: Notice, line: &[u8]) -> Deed
     requires { ⌜ Placed (now room) f × (13 ≤ length (now line)) ⌝ }
-    ensures { λ r. ⌜ r ≡ decideBy (noticeKind notice) (now (line .entry)) (entryOf (entriesOf (f .deletions) (now (room .entry))) (f .in_deletions)) (entryOf (entriesOf (f .held) (now (room .entry))) (f .in_held)) ⌝ }
+    ensures { λ r. ⌜ r ≡ decideBy notice (now (line .entry)) (entryOf (entriesOf (f .deletions) (now (room .entry))) (f .in_deletions)) (entryOf (entriesOf (f .held) (now (room .entry))) (f .in_held)) ⌝ }
 {
     let held = f.held;
     let in_held = f.in_held;
@@ -180,6 +181,7 @@ fn declined(deed: Deed) -> Deed
         Deed::Hold(_) => Deed::Leave(super::FULL),
         Deed::Note(_) => Deed::Leave(super::FULL),
         Deed::Wipe(_) => Deed::Leave(super::FULL),
+        Deed::Link(_) => Deed::Leave(super::FULL),
     }
 }
 

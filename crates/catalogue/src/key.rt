@@ -1,14 +1,20 @@
-// Keys by value: the words of a source and an identifier, and their order.
+// Keys by value: the words of a source, an identifier and a type, and their order.
 ghost use mathlib.Core.Path.{_≡_};
+ghost use mathlib.Core.Bool.{true};
 ghost use Prim.Native.Nat.{_+_, _≤_, _<_};
 ghost use lib.ListN.{length};
 ghost use lib.Dec.{ltb, eqb};
+ghost use Rattle.catalogue.specs.Line.{typeAt, filled};
 ghost use Rattle.catalogue.specs.Keys.{two, eight, keyIn, keyNumber};
 
-// The words of a key, high word first.
+const BLANK: u8 = 32;
+
+// The words of a key: source, identifier, and the 16 bytes of a type, which are zero in a pair's key.
 pub struct Key {
     pub source: u64,
     pub identifier: u64,
+    pub high: u64,
+    pub low: u64,
 }
 
 fn wide(x: u8) -> u64
@@ -32,15 +38,60 @@ pub fn word8(s: &[u8], at: usize) -> u64
         + word2(s, at + 6)
 }
 
-// The key whose source and identifier stand at two places.
-pub fn key_at(s: &[u8], source: usize, identifier: usize) -> Key
-    requires { ⌜ (source + 2 ≤ length (now s)) × (identifier + 8 ≤ length (now s)) ⌝ }
-    ensures { λ r. ⌜ keyNumber r ≡ keyIn source identifier (now (s .entry)) ⌝ }
+// The type at a place: of 16 bytes those before the first blank, then zeros.
+fn type_at(s: &[u8], at: usize) -> [u8; 16]
+    requires { ⌜ at + 16 ≤ length (now s) ⌝ }
+    ensures { λ r. ⌜ r ≡ filled (typeAt at (now (s .entry))) ⌝ }
 {
-    Key {
-        source: word2(s, source),
-        identifier: word8(s, identifier),
+    let mut bytes = [0u8; 16];
+    let mut i = 0;
+    while i < 16 {
+        let b = s[at + i];
+        if b == BLANK {
+            return bytes;
+        }
+        bytes[i] = b;
+        i += 1;
     }
+    bytes
+}
+
+// The key whose source and identifier stand at two places; its type, if it has one, stands 13 bytes after the identifier's first.
+pub fn key_at(s: &[u8], source: usize, identifier: usize, typed: bool) -> Key
+    requires { ⌜ (source + 2 ≤ length (now s)) × (identifier + 8 ≤ length (now s)) × (typed ≡ true → identifier + 29 ≤ length (now s)) ⌝ }
+    ensures { λ r. ⌜ keyNumber r ≡ keyIn typed source identifier (now (s .entry)) ⌝ }
+{
+    let first = word2(s, source);
+    let second = word8(s, identifier);
+    if typed {
+        let bytes = type_at(s, identifier + 13);
+        return Key {
+            source: first,
+            identifier: second,
+            high: word8(&bytes, 0),
+            low: word8(&bytes, 8),
+        };
+    }
+    Key {
+        source: first,
+        identifier: second,
+        high: 0,
+        low: 0,
+    }
+}
+
+// Whether a stands before b, where their sources and identifiers are equal.
+fn type_before(a: Key, b: Key) -> bool
+    requires { ⌜ (a .source ≡ b .source) × (a .identifier ≡ b .identifier) ⌝ }
+    ensures { λ r. ⌜ r ≡ ltb (keyNumber a) (keyNumber b) ⌝ }
+{
+    if a.high < b.high {
+        return true;
+    }
+    if b.high < a.high {
+        return false;
+    }
+    a.low < b.low
 }
 
 // Whether a stands before b.
@@ -53,7 +104,13 @@ pub fn before(a: Key, b: Key) -> bool
     if b.source < a.source {
         return false;
     }
-    a.identifier < b.identifier
+    if a.identifier < b.identifier {
+        return true;
+    }
+    if b.identifier < a.identifier {
+        return false;
+    }
+    type_before(a, b)
 }
 
 pub fn equal(a: Key, b: Key) -> bool
@@ -62,5 +119,11 @@ pub fn equal(a: Key, b: Key) -> bool
     if a.source != b.source {
         return false;
     }
-    a.identifier == b.identifier
+    if a.identifier != b.identifier {
+        return false;
+    }
+    if a.high != b.high {
+        return false;
+    }
+    a.low == b.low
 }

@@ -1,7 +1,8 @@
-// The catalogue: one room of held E lines and deletions.
+// The catalogue: one room of held E lines, deletions and links.
 pub mod decide;
 pub mod desk;
 pub mod key;
+pub mod link;
 pub mod look_up;
 pub mod moves;
 pub mod order;
@@ -11,10 +12,13 @@ pub mod splice;
 pub mod take;
 
 // The bytes of a room.
-pub const ROOM: usize = 46596;
+pub const ROOM: usize = 62982;
 
 // The most pairs that a room names.
 pub const PAIRS: usize = 512;
+
+// The most links that a room has.
+pub const LINKS: usize = 64;
 
 // The version of a delete that has none.
 pub const BLANK: u8 = 32;
@@ -23,6 +27,8 @@ pub const BLANK: u8 = 32;
 pub const FULL: u8 = 12;
 
 pub const DISORDER: u8 = 13;
+
+pub const LINKS_FULL: u8 = 16;
 
 pub const STORED: u8 = 20;
 

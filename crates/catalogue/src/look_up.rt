@@ -9,9 +9,9 @@ use super::room::held_in;
 use super::section::Seek;
 use super::section::look;
 ghost use mathlib.Core.Path.{_≡_};
-ghost use mathlib.Core.List.{_++_};
+ghost use mathlib.Core.List.{[], _++_};
 ghost use lib.ListN.{length};
-ghost use Rattle.formats.specs.Record.{wordOf};
+ghost use Rattle.catalogue.specs.Line.{keyOf};
 ghost use Rattle.catalogue.specs.Room.{contents};
 ghost use Rattle.catalogue.specs.Ordered.{Ordered};
 ghost use Rattle.catalogue.specs.Keys.{keyNumber};
@@ -26,11 +26,13 @@ fn none(number: u8) -> Looked
 // The key of a source and an identifier.
 fn key_by(source: &[u8], identifier: &[u8]) -> Key
     requires { ⌜ (length (now source) ≡ 2) × (length (now identifier) ≡ 8) ⌝ }
-    ensures { λ r. ⌜ keyNumber r ≡ wordOf 0 (now (source .entry) ++ now (identifier .entry)) ⌝ }
+    ensures { λ r. ⌜ keyNumber r ≡ keyOf (now (source .entry) ++ now (identifier .entry)) [] ⌝ }
 {
     Key {
         source: super::key::word2(source, 0),
         identifier: super::key::word8(identifier, 0),
+        high: 0,
+        low: 0,
     }
 }
 

@@ -1,10 +1,12 @@
 // Whether a room is in order, and how many pairs it then names.
 use super::Call;
+use super::LINKS;
 use super::PAIRS;
 use super::ROOM;
 use super::room::deletions_in;
 use super::room::end_of;
 use super::room::held_in;
+use super::room::links_in;
 use super::section::Section;
 use super::section::Seek;
 use super::section::advance;
@@ -16,7 +18,9 @@ use super::section::met;
 use super::take::take_ordered;
 use columns::bytes::first_barred;
 use formats::judge::is_event;
+use formats::judge::is_link;
 ghost use mathlib.Core.Path.{_≡_};
+ghost use mathlib.Core.Bool.{_&&_};
 ghost use mathlib.Core.List.{[], _∷_};
 ghost use Prim.Native.Nat.{_+_, _-_, _≤_, _<_};
 ghost use lib.ListN.{length, take, drop, getD};
@@ -24,9 +28,9 @@ ghost use Rattle.columns.specs.Answer.{pick};
 ghost use Rattle.catalogue.specs.Line.{key, deletionKey};
 ghost use Rattle.catalogue.specs.Assoc.{below, AscFrom};
 ghost use Rattle.catalogue.specs.Catalogue.{onlyHeld, named};
-ghost use Rattle.catalogue.specs.Good.{every, heldOk, deletionOk};
+ghost use Rattle.catalogue.specs.Good.{ascends, every, heldOk, deletionOk, linkOk};
 ghost use Rattle.catalogue.specs.Room.{roomSize, contents, inOrder, orderOf, callOf, roomAfter};
-ghost use Rattle.catalogue.specs.Entries.{entriesOf, Inside};
+ghost use Rattle.catalogue.specs.Entries.{entriesOf, entryKey, Inside};
 ghost use Rattle.catalogue.specs.Places.{heldIn, deletionsIn};
 ghost use Rattle.catalogue.specs.Zeros.{allZero};
 
@@ -64,6 +68,47 @@ fn zeros(s: &[u8], from: usize, to: usize) -> bool
         i += 1;
     }
     true
+}
+
+// Whether a link's entry is that of an acceptable LI line.
+fn link_allowed(entry: &[u8]) -> bool
+    requires { ⌜ length (now entry) ≡ 256 ⌝ }
+    ensures { λ r. ⌜ r ≡ linkOk (now (entry .entry)) ⌝ }
+{
+    let end = 1 + entry[0] as usize;
+    if is_link(&entry[1..end]) {
+        return zeros(entry, end, 256);
+    }
+    false
+}
+
+// Whether each link's entry is.
+fn links_allowed(s: &[u8], of: Section) -> bool
+    requires { ⌜ Inside of (now s) × (of .size ≡ 256) ⌝ }
+    ensures { λ r. ⌜ r ≡ every linkOk (entriesOf of (now (s .entry))) ⌝ }
+{
+    let mut i = 0;
+    while i < of.count {
+        let at = entry_at(s, of, i);
+        let end = at + 256;
+        if link_allowed(&s[at..end]) {
+            i += 1;
+        } else {
+            return false;
+        }
+    }
+    true
+}
+
+// Whether the links ascend and each entry is.
+fn links_fine(s: &[u8], links: Section) -> bool
+    requires { ⌜ Inside links (now s) × (links .size ≡ 256) ⌝ }
+    ensures { λ r. ⌜ r ≡ (ascends (entryKey links) 0 (entriesOf links (now (s .entry))) && every linkOk (entriesOf links (now (s .entry)))) ⌝ }
+{
+    if ascending(s, links) {
+        return links_allowed(s, links);
+    }
+    false
 }
 
 // 0 where the i-th held line is not acceptable or not above its pair's deletion, whose place is j; else 1, and one more where its
@@ -122,6 +167,10 @@ pub fn named_pairs(s: &[u8]) -> usize
     if PAIRS < deletions.count {
         return TOO_MANY;
     }
+    let links = links_in(s, deletions);
+    if LINKS < links.count {
+        return TOO_MANY;
+    }
     if !ascending(s, deletions) {
         return TOO_MANY;
     }
@@ -131,11 +180,14 @@ pub fn named_pairs(s: &[u8]) -> usize
     if !deletions_allowed(s, deletions) {
         return TOO_MANY;
     }
+    if !links_fine(s, links) {
+        return TOO_MANY;
+    }
     let named = deletions.count + only_held(s, held, deletions);
     if PAIRS < named {
         return TOO_MANY;
     }
-    let used = end_of(s, deletions);
+    let used = end_of(s, links);
     if zeros(s, used, ROOM) {
         return named;
     }

@@ -1,10 +1,10 @@
-// The sections of a room: held lines, then deletions.
+// The sections of a room: held lines, deletions, links.
 use super::key::word2;
 use super::section::Section;
 ghost use mathlib.Core.Path.{_≡_};
 ghost use Prim.Native.Nat.{_+_, _≤_};
 ghost use lib.ListN.{length};
-ghost use Rattle.catalogue.specs.Places.{endOf, heldIn, deletionsIn};
+ghost use Rattle.catalogue.specs.Places.{endOf, heldIn, deletionsIn, linksIn};
 
 // Where a section of a room ends.
 pub fn end_of(room: &[u8], of: Section) -> usize
@@ -24,6 +24,7 @@ pub fn held_in(room: &[u8]) -> Section
         size: 80,
         source: 10,
         identifier: 2,
+        typed: false,
     }
 }
 
@@ -38,5 +39,21 @@ pub fn deletions_in(room: &[u8], held: Section) -> Section
         size: 11,
         source: 0,
         identifier: 2,
+        typed: false,
+    }
+}
+
+pub fn links_in(room: &[u8], deletions: Section) -> Section
+    requires { ⌜ (deletions ≡ deletionsIn (now room)) × (endOf deletions + 2 ≤ length (now room)) ⌝ }
+    ensures { λ r. ⌜ r ≡ linksIn (now (room .entry)) ⌝ }
+{
+    let at = end_of(room, deletions);
+    Section {
+        at,
+        count: word2(room, at) as usize,
+        size: 256,
+        source: 11,
+        identifier: 3,
+        typed: true,
     }
 }

@@ -13,13 +13,15 @@ ghost use Rattle.catalogue.specs.Good.{ascends};
 ghost use Rattle.catalogue.specs.Keys.{keyNumber};
 ghost use Rattle.catalogue.specs.Entries.{entriesOf, entryKey, Inside, Sought};
 
-// Where a section's count stands, how many entries it has, the bytes of an entry, and where an entry has its source and identifier.
+// Where a section's count stands, how many entries it has, the bytes of an entry, where an entry has its source and identifier, and
+// whether its key has a type besides.
 pub struct Section {
     pub at: usize,
     pub count: usize,
     pub size: usize,
     pub source: usize,
     pub identifier: usize,
+    pub typed: bool,
 }
 
 // What a search for a key finds: its place, or the place where it would stand.
@@ -51,7 +53,7 @@ pub fn key_of(s: &[u8], of: Section, i: usize) -> Key
     ensures { λ r. ⌜ keyNumber r ≡ entryKey of (getD (entriesOf of (now (s .entry))) i []) ⌝ }
 {
     let at = entry_at(s, of, i);
-    key_at(s, at + of.source, at + of.identifier)
+    key_at(s, at + of.source, at + of.identifier, of.typed)
 }
 
 fn choose(t: bool, a: usize, b: usize) -> usize

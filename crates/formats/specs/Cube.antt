@@ -1,17 +1,19 @@
--- CUBE lines: E and DE messages, as they are read and written. Document 01, "The E line", "The DE line".
+-- CUBE lines: E, DE and LI messages, as they are read and written. Document 01, "The E line", "The DE line"; document 02,
+-- "Take the links".
 use Prim.Native.Nat.{ℕ, _+_, _-_}
 use mathlib.Core.List.{List, [], _∷_, _++_}
 use mathlib.Core.Bool.{Bool, true, false, _&&_}
 use lib.IntN.{ℤ, pos, negsuc}
 use lib.ListN.{length, take, drop, getD, replicate}
 use lib.Dec.{eqb, ltb}
-use Rattle.columns.specs.Answer.{pick, Answer, ok, refusal, barredByte, tooShort}
+use Rattle.columns.specs.Answer.{pick, Answer, ok, refusal, barredByte, badForm, tooShort}
 use Rattle.columns.specs.Bytes.{barred}
 use Rattle.columns.specs.Column.{Slot, Rec, Col, integer, text, span, required, optional, noBrackets, anyText}
 use Rattle.columns.specs.Reading.{readColumns}
 use Rattle.columns.specs.Writing.{writeColumns}
 use Rattle.columns.specs.Table.{flagsOf, valuesOf, over}
 use Rattle.formats.specs.Check.{checkCharacter}
+use Rattle.formats.specs.Link.{typeOf, addressOf, textOf, formed}
 use Rattle.formats.specs.declared.cube.Read.{Read}
 use Rattle.formats.specs.declared.cube.Read.the-variants as R
 use Rattle.formats.specs.declared.cube.LineRead.{LineRead}
@@ -63,11 +65,13 @@ eventColumns =
     ∷ text 1 optional anyText
     ∷ []
 
--- a message: an event's 19 numbers and its 13 text bytes (identifier, source, version, magnitude letter, method), or a
--- delete's identifier, source and version, 11 bytes, and its free text
+-- a message: an event's 19 numbers and its 13 text bytes (identifier, source, version, magnitude letter, method); a delete's
+-- identifier, source and version, 11 bytes, and its free text; or a link's identifier, source and version, 12 bytes, and its
+-- type, address and text
 pub data Message : Type 0 where
   event : List Slot → List ℕ → Message
   delete : List ℕ → List ℕ → Message
+  link : List ℕ → List ℕ → List ℕ → List ℕ → Message
 
 -- ---- read: under 2 bytes 1; type 3; length 1; lowest barred byte 2; check 9; fields left to right
 
@@ -102,14 +106,32 @@ readDelete l =
     (unless (differs (lowestBarred l) 0) barredByte (lowestBarred l)
     (ok (delete (take 11 (drop 2 l)) (drop 13 l)))))
 
+-- the parts of an LI line, or 6 at column 15 where they are malformed
+unfoldable pub linkParts : List ℕ → Answer Message
+linkParts l =
+    pick (eqb (getD l 14 0) 32 && formed (typeOf l) (addressOf l) (textOf l))
+    (ok (link (take 12 (drop 2 l)) (typeOf l) (addressOf l) (textOf l))) (refusal badForm 15)
+
+-- the lowest barred byte of an LI line, brackets barred in columns 3 to 14
+abbrev pub linkBarred : List ℕ → ℕ
+linkBarred l = barred 3 14 1 l
+
+-- an LI line: 20 to 255 bytes, a version of two bytes, a blank in column 15, then the parts
+unfoldable pub readLink : List ℕ → Answer Message
+readLink l =
+    unless (ltb (length l) 20) wrongLength 0
+    (unless (ltb 255 (length l)) wrongLength 0
+    (unless (differs (linkBarred l) 0) barredByte (linkBarred l) (linkParts l)))
+
 abbrev pub isType : ℕ → ℕ → List ℕ → Bool
 isType a b l = eqb (getD l 0 0) a && eqb (getD l 1 0) b
 
--- `E ` is an event, `DE` a delete, any other type 3
+-- `E ` is an event, `DE` a delete, `LI` a link, any other type 3
 unfoldable pub readLine : List ℕ → Answer Message
 readLine l =
     unless (ltb (length l) 2) wrongLength 0
-    (pick (isType 69 32 l) (readEvent l) (pick (isType 68 69 l) (readDelete l) (refusal wrongType 1)))
+    (pick (isType 69 32 l) (readEvent l)
+    (pick (isType 68 69 l) (readDelete l) (pick (isType 76 73 l) (readLink l) (refusal wrongType 1))))
 
 -- ---- what the code returns for an answer: the arrays are zero but for the record
 
@@ -120,30 +142,40 @@ eventKind = 1
 abbrev pub deleteKind : ℕ
 deleteKind = 2
 
+abbrev pub linkKind : ℕ
+linkKind = 4
+
 abbrev pub lineOf : Answer Message → LineRead
 lineOf (ok (event ns t)) =
     record {
-      read = R.There eventKind 0;
+      read = R.There eventKind 0 0 0;
       flags = over (flagsOf ns) (replicate 19 0);
       values = over (valuesOf ns) (replicate 19 (pos 0));
-      text = over t (replicate 78 0);
+      text = over t (replicate 250 0);
     }
 lineOf (ok (delete names t)) =
     record {
-      read = R.There deleteKind (length t);
+      read = R.There deleteKind 0 0 (length t);
       flags = replicate 19 0;
       values = replicate 19 (pos 0);
-      text = over (names ++ t) (replicate 78 0);
+      text = over (names ++ t) (replicate 250 0);
+    }
+lineOf (ok (link names ty ad tx)) =
+    record {
+      read = R.There linkKind (length ty) (length ad) (length tx);
+      flags = replicate 19 0;
+      values = replicate 19 (pos 0);
+      text = over (names ++ (ty ++ (ad ++ tx))) (replicate 250 0);
     }
 lineOf (refusal n k) =
     record {
       read = R.Refused n k;
       flags = replicate 19 0;
       values = replicate 19 (pos 0);
-      text = replicate 78 0;
+      text = replicate 250 0;
     }
 
--- ---- written: 1 for a DE text over 67 bytes; 11; fields left to right
+-- ---- written: 1 for a DE text over 67 bytes or an LI line outside 20 to 255; 11; fields left to right
 
 -- the type before the columns of an E line, and the check character after them
 abbrev pub sealed : List ℕ → List ℕ
@@ -152,6 +184,17 @@ sealed ys = (69 ∷ 32 ∷ ys) ++ checkCharacter (69 ∷ 32 ∷ ys) ∷ []
 abbrev pub sealedAnswer : Answer (List ℕ) → Answer (List ℕ)
 sealedAnswer (ok ys) = ok (sealed ys)
 sealedAnswer (refusal n k) = refusal n k
+
+abbrev pub linkLine : List ℕ → List ℕ → List ℕ → List ℕ → List ℕ
+linkLine names ty ad tx = 76 ∷ 73 ∷ (names ++ (32 ∷ ty ++ (32 ∷ ad ++ (32 ∷ tx))))
+
+-- an LI line, and whether its parts are well formed: 2 in every column comes before 6 at column 15
+unfoldable pub putLink : List ℕ → Bool → ℕ → Answer (List ℕ)
+putLink l f room =
+    unless (ltb (length l) 20) wrongLength 0
+    (unless (ltb 255 (length l)) wrongLength 0
+    (unless (ltb room (length l)) tooShort 0
+    (unless (differs (linkBarred l) 0) barredByte (linkBarred l) (pick f (ok l) (refusal badForm 15)))))
 
 -- the fields of a DE line are text, each refused by its lowest barred byte alone
 unfoldable pub writeMessage : Message → ℕ → Answer (List ℕ)
@@ -162,3 +205,4 @@ writeMessage (delete names t) room =
     (unless (ltb room (13 + length t)) tooShort 0
     (unless (differs (barred 3 13 3 (names ++ t)) 0) barredByte (barred 3 13 3 (names ++ t))
     (ok (68 ∷ 69 ∷ (names ++ t)))))
+writeMessage (link names ty ad tx) room = putLink (linkLine names ty ad tx) (formed ty ad tx) room

@@ -1,6 +1,7 @@
 pub mod Check
 pub mod Cube
 pub mod Record
+pub mod Link
 pub mod CubeRecord
 pub mod Lines
 pub mod Phase

@@ -1,5 +1,6 @@
-// CUBE lines: E and DE messages, read and written.
+// CUBE lines: E and DE messages, read and written; a line of any kind read.
 use super::check::check_character;
+use super::link::read_link;
 use columns::Outcome;
 use columns::bytes::copy;
 use columns::bytes::first_barred;
@@ -176,27 +177,31 @@ pub const EVENT: u8 = 1;
 
 pub const DELETE: u8 = 2;
 
-// What reading a line gives: a record that is there, with its kind and the length of its free text, or the number and column of a refusal.
+pub const LINK: u8 = 4;
+
+// What reading a line gives: a record that is there, with its kind and the lengths of a link's type, address and text (of a
+// delete only its free text), or the number and column of a refusal.
 pub enum Read {
-    There(u8, usize),
+    There(u8, usize, usize, usize),
     Refused(u8, usize),
 }
 
 // The outcome of reading a line, with the record: an event's numbers with their flags, and its text (identifier 8,
-// source 2, version 1, magnitude letter, method); or a delete's text (identifier, source, version, free text).
+// source 2, version 1, magnitude letter, method); a delete's text (identifier, source, version, free text); or a link's
+// (identifier, source, version 2, type, address, text).
 pub struct LineRead {
     pub read: Read,
     pub flags: [u8; 19],
     pub values: [i64; 19],
-    pub text: [u8; 78],
+    pub text: [u8; 250],
 }
 
-fn refused(number: u8, column: usize) -> LineRead
+pub fn refused(number: u8, column: usize) -> LineRead
     ensures { λ r. ⌜ r ≡ lineOf (refusal number column) ⌝ }
 {
     let flags = [0u8; 19];
     let values = [0i64; 19];
-    let text = [0u8; 78];
+    let text = [0u8; 250];
     LineRead {
         read: Read::Refused(number, column),
         flags,
@@ -212,7 +217,7 @@ fn read_event_columns(line: &[u8]) -> LineRead
 {
     let mut flags = [0u8; 19];
     let mut values = [0i64; 19];
-    let mut text = [0u8; 78];
+    let mut text = [0u8; 250];
     let outcome = read_columns(
         line,
         2,
@@ -227,7 +232,7 @@ fn read_event_columns(line: &[u8]) -> LineRead
     match outcome {
         Outcome::Refused(number, column) => refused(number, column),
         Outcome::Done => LineRead {
-            read: Read::There(EVENT, 0),
+            read: Read::There(EVENT, 0, 0, 0),
             flags,
             values,
             text,
@@ -269,17 +274,17 @@ fn read_delete(line: &[u8]) -> LineRead
     }
     let flags = [0u8; 19];
     let values = [0i64; 19];
-    let mut text = [0u8; 78];
+    let mut text = [0u8; 250];
     copy(&mut text, &line[2..len]);
     LineRead {
-        read: Read::There(DELETE, len - 13),
+        read: Read::There(DELETE, 0, 0, len - 13),
         flags,
         values,
         text,
     }
 }
 
-// A CUBE line of either kind.
+// A CUBE line of any kind.
 pub fn read_line(line: &[u8]) -> LineRead
     ensures { λ r. ⌜ r ≡ lineOf (readLine (now (line .entry))) ⌝ }
 {
@@ -297,6 +302,12 @@ pub fn read_line(line: &[u8]) -> LineRead
     if a == 68 {
         if b == 69 {
             return read_delete(line);
+        }
+        return refused(super::TYPE, 1);
+    }
+    if a == 76 {
+        if b == 73 {
+            return read_link(line);
         }
         return refused(super::TYPE, 1);
     }

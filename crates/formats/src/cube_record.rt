@@ -2,25 +2,28 @@
 use super::Reply;
 use super::cube::DELETE;
 use super::cube::EVENT;
+use super::cube::LINK;
 use super::cube::Read;
 use super::cube::read_line;
 use super::cube::write_delete;
 use super::cube::write_event;
+use super::link::write_link;
+use super::record::copy_at;
 use super::record::get_numbers;
 use super::record::pack;
 use super::record::same;
 use columns::Outcome;
 use columns::bytes::copy;
 ghost use mathlib.Core.Path.{_≡_};
-ghost use mathlib.Core.List.{_∷_};
-ghost use Prim.Native.Nat.{_+_, _≤_};
+ghost use mathlib.Core.List.{_∷_, _++_};
+ghost use Prim.Native.Nat.{_+_, _≤_, _<_};
 ghost use lib.ListN.{length, take, getD};
 ghost use Rattle.columns.specs.Table.{over, slotsOf};
-ghost use Rattle.formats.specs.Cube.{eventKind, deleteKind};
+ghost use Rattle.formats.specs.Cube.{eventKind, deleteKind, linkKind};
 ghost use Rattle.formats.specs.Record.{packed, Replied, replied};
 ghost use Rattle.formats.specs.CubeRecord.{filled, readInto, writeFrom};
 
-// The bytes of a record of either kind.
+// The bytes of a record of any kind.
 pub const RECORD: usize = 268;
 
 fn event_bytes(flags: &[u8; 19], values: &[i64; 19], text: &[u8]) -> [u8; 268]
@@ -32,17 +35,36 @@ fn event_bytes(flags: &[u8; 19], values: &[i64; 19], text: &[u8]) -> [u8; 268]
     bytes
 }
 
-// `chars` are the names, 11 bytes, and the text.
-fn delete_bytes(len: u8, chars: &[u8]) -> [u8; 268]
-    requires { ⌜ length (now chars) ≤ 266 ⌝ }
-    ensures { λ r. ⌜ r ≡ filled (deleteKind ∷ len ∷ now (chars .entry)) ⌝ }
+// The kind and the lengths of a delete or a link, then its names and texts.
+fn text_bytes(head: &[u8], chars: &[u8]) -> [u8; 268]
+    requires { ⌜ length (now head) + length (now chars) ≤ 268 ⌝ }
+    ensures { λ r. ⌜ r ≡ filled (now (head .entry) ++ now (chars .entry)) ⌝ }
 {
     let mut bytes = [0u8; 268];
-    bytes[0] = DELETE;
-    bytes[1] = len;
-    let end = 2 + chars.len();
-    copy(&mut bytes[2..end], chars);
+    let at = head.len();
+    copy_at(&mut bytes, 0, head);
+    copy_at(&mut bytes, at, chars);
     bytes
+}
+
+// `chars` begin with the names, 11 bytes, and a text of `len` bytes.
+fn delete_bytes(len: usize, chars: &[u8]) -> [u8; 268]
+    requires { ⌜ (len ≤ 67) × (length (now chars) ≡ 250) ⌝ }
+    ensures { λ r. ⌜ r ≡ filled (deleteKind ∷ len ∷ take (11 + len) (now (chars .entry))) ⌝ }
+{
+    let end = 11 + len;
+    let head = [DELETE, len as u8];
+    text_bytes(&head, &chars[0..end])
+}
+
+// `chars` begin with the names, 12 bytes, and a type, an address and a text of these lengths.
+fn link_bytes(kind: usize, address: usize, text: usize, chars: &[u8]) -> [u8; 268]
+    requires { ⌜ (kind + address + text ≤ 238) × (length (now chars) ≡ 250) ⌝ }
+    ensures { λ r. ⌜ r ≡ filled (linkKind ∷ kind ∷ address ∷ text ∷ take (12 + kind + address + text) (now (chars .entry))) ⌝ }
+{
+    let end = 12 + kind + address + text;
+    let head = [LINK, kind as u8, address as u8, text as u8];
+    text_bytes(&head, &chars[0..end])
 }
 
 // A CUBE line read into a record, over the first bytes of `out`. Nothing is changed where it is refused.
@@ -59,14 +81,18 @@ pub fn read_into(line: &[u8], out: &mut [u8]) -> Reply
     let text = got.text;
     match read {
         Read::Refused(number, column) => Reply::Refused(number, column),
-        Read::There(kind, len) => {
+        Read::There(kind, type_len, address_len, text_len) => {
             if kind == EVENT {
                 let bytes = event_bytes(&flags, &values, &text[0..13]);
                 copy(out, &bytes);
                 return Reply::Done(RECORD);
             }
-            let end = 11 + len;
-            let bytes = delete_bytes(len as u8, &text[0..end]);
+            if kind == LINK {
+                let bytes = link_bytes(type_len, address_len, text_len, &text);
+                copy(out, &bytes);
+                return Reply::Done(RECORD);
+            }
+            let bytes = delete_bytes(text_len, &text);
             copy(out, &bytes);
             Reply::Done(RECORD)
         }
@@ -101,15 +127,46 @@ fn write_event_from(from: &[u8], out: &mut [u8]) -> Reply
 
 // The line of a delete's record, of exactly 268 bytes, with a text of `len` bytes.
 fn write_delete_from(from: &[u8], len: u8, out: &mut [u8]) -> Reply
-    requires { ⌜ (length (now from) ≡ 268) × ((getD (now from) 0 0 ≡ eventKind → ⊥) × (getD (now from) 1 0 ≡ len)) ⌝ }
+    requires { ⌜ (length (now from) ≡ 268) × ((getD (now from) 0 0 ≡ eventKind → ⊥) × ((getD (now from) 0 0 ≡ linkKind → ⊥) × (getD (now from) 1 0 ≡ len))) ⌝ }
     ensures { λ r. ⌜ Replied (writeFrom (now (from .entry)) (length (now (out .entry)))) r (now (out .entry)) (now (out .exit)) ⌝ }
 {
     let end = 13 + (len as usize);
-    let bytes = delete_bytes(len, &from[2..end]);
+    let head = [DELETE, len];
+    let bytes = text_bytes(&head, &from[2..end]);
     if same(&bytes, from) {
         let mut names = [0u8; 11];
         copy(&mut names, &from[2..13]);
         return reply_of(write_delete(&names, &from[13..end], out), end);
+    }
+    Reply::Refused(columns::FORM, 0)
+}
+
+// The line of a link's record, of exactly 268 bytes, with a type, an address and a text of these lengths.
+fn write_link_from(from: &[u8], kind: u8, address: u8, text: u8, out: &mut [u8]) -> Reply
+    requires { ⌜ (length (now from) ≡ 268) × ((getD (now from) 0 0 ≡ linkKind) × ((getD (now from) 1 0 ≡ kind) × ((getD (now from) 2 0 ≡ address) × (getD (now from) 3 0 ≡ text)))) ⌝ }
+    ensures { λ r. ⌜ Replied (writeFrom (now (from .entry)) (length (now (out .entry)))) r (now (out .entry)) (now (out .exit)) ⌝ }
+{
+    let start = 16 + (kind as usize);
+    let rest = start + (address as usize);
+    let end = rest + (text as usize);
+    if RECORD < end {
+        return Reply::Refused(columns::FORM, 0);
+    }
+    let head = [LINK, kind, address, text];
+    let bytes = text_bytes(&head, &from[4..end]);
+    if same(&bytes, from) {
+        let mut names = [0u8; 12];
+        copy(&mut names, &from[4..16]);
+        return reply_of(
+            write_link(
+                &names,
+                &from[16..start],
+                &from[start..rest],
+                &from[rest..end],
+                out,
+            ),
+            end + 1,
+        );
     }
     Reply::Refused(columns::FORM, 0)
 }
@@ -124,6 +181,11 @@ pub fn write_from(from: &[u8], out: &mut [u8]) -> Reply
     if from[0] == EVENT {
         return write_event_from(&from[0..268], out);
     }
-    let len = from[1];
-    write_delete_from(&from[0..268], len, out)
+    let first = from[1];
+    if from[0] == LINK {
+        let second = from[2];
+        let third = from[3];
+        return write_link_from(&from[0..268], first, second, third, out);
+    }
+    write_delete_from(&from[0..268], first, out)
 }

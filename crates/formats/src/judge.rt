@@ -1,12 +1,15 @@
-// E lines judged: whether a line is an acceptable event, with nothing stored.
+// Lines judged: whether a line is an acceptable event, with nothing stored, or an acceptable link.
 use super::check::check_character;
+use super::cube::LINK;
+use super::cube::Read;
+use super::cube::read_line;
 use columns::bytes::first_barred;
 use columns::judge::int_ok;
 ghost use mathlib.Core.Path.{_≡_};
 ghost use lib.ListN.{length, drop};
 ghost use Rattle.columns.specs.Judge.{accepted};
 ghost use Rattle.formats.specs.Cube.{eventColumns};
-ghost use Rattle.formats.specs.Judge.{isEventLine};
+ghost use Rattle.formats.specs.Judge.{isEventLine, isLinkLine};
 
 // Columns 60 to 79: rms, errors, gap, magnitude stations and error.
 fn errors_ok(line: &[u8]) -> bool
@@ -106,4 +109,16 @@ pub fn is_event(line: &[u8]) -> bool
         return false;
     }
     columns_ok(line)
+}
+
+// Whether the line is an acceptable LI line.
+pub fn is_link(line: &[u8]) -> bool
+    ensures { λ r. ⌜ r ≡ isLinkLine (now (line .entry)) ⌝ }
+{
+    let got = read_line(line);
+    let read = got.read;
+    match read {
+        Read::There(kind, _, _, _) => kind == LINK,
+        Read::Refused(_, _) => false,
+    }
 }

@@ -10,6 +10,7 @@ pub mod cube_record;
 pub mod header;
 pub mod judge;
 pub mod lines;
+pub mod link;
 pub mod phase;
 pub mod phase_record;
 pub mod record;

@@ -1,4 +1,5 @@
 pub mod Text
+pub mod Links
 pub mod Session
 pub mod Steps
 pub mod Whole

@@ -10,6 +10,7 @@ use Rattle.catalogue.specs.declared.section.Section.{Section}
 use Rattle.catalogue.specs.Catalogue.{Catalogue}
 use Rattle.catalogue.specs.Room.{callOf, roomAfter}
 use Rattle.catalogue.specs.Entries.{Inside}
+use Rattle.take.specs.Links.{shown}
 
 -- the bytes s stand in `after` from `at` on, behind the bytes that stood before `at`; `next` is the place after them
 pub record Put (before : List ℕ) (at : ℕ) (s after : List ℕ) (next : ℕ) : Type 0 where
@@ -53,8 +54,17 @@ rowLines (x ∷ xs) = x ++ (10 ∷ rowLines xs)
 unfoldable pub section : List ℕ → List (List ℕ) → List ℕ
 section title xs = title ++ (decimal (length xs) ++ (10 ∷ rowLines xs))
 
--- `held` and the held lines, then `deleted` and the deletions
+-- `held `, `deleted `, `links `
+abbrev pub heldTitle : List ℕ
+heldTitle = 104 ∷ 101 ∷ 108 ∷ 100 ∷ 32 ∷ []
+
+abbrev pub deletedTitle : List ℕ
+deletedTitle = 100 ∷ 101 ∷ 108 ∷ 101 ∷ 116 ∷ 101 ∷ 100 ∷ 32 ∷ []
+
+abbrev pub linksTitle : List ℕ
+linksTitle = 108 ∷ 105 ∷ 110 ∷ 107 ∷ 115 ∷ 32 ∷ []
+
+-- `held` and the held lines, `deleted` and the deletions, `links` and the lines of those that are not taken back (document 02, "Take the
+-- links")
 unfoldable pub catalogueText : Catalogue → List ℕ
-catalogueText c =
-    section (104 ∷ 101 ∷ 108 ∷ 100 ∷ 32 ∷ []) (c .held)
-    ++ section (100 ∷ 101 ∷ 108 ∷ 101 ∷ 116 ∷ 101 ∷ 100 ∷ 32 ∷ []) (c .deletions)
+catalogueText c = section heldTitle (c .held) ++ (section deletedTitle (c .deletions) ++ section linksTitle (shown (c .links)))

@@ -1,4 +1,5 @@
 // Takes the lines of standard input into an empty catalogue; prints each line's answer, then the catalogue.
+mod links;
 mod session;
 mod stream;
 mod text;

@@ -1,7 +1,9 @@
 // Text put into a lent buffer: each call puts its bytes at a place and answers the place after them.
+use super::links::put_links;
 use catalogue::Call;
 use catalogue::room::deletions_in;
 use catalogue::room::held_in;
+use catalogue::room::links_in;
 use catalogue::section::Section;
 use catalogue::section::entry_at;
 use catalogue::splice::copy_in;
@@ -23,7 +25,7 @@ const ZERO: u8 = 48;
 // The most digits that a number of 64 bits has.
 const DIGITS: usize = 20;
 
-fn put_byte(out: &mut [u8], at: usize, b: u8) -> usize
+pub fn put_byte(out: &mut [u8], at: usize, b: u8) -> usize
     requires { ⌜ at < length (now out) ⌝ }
     ensures { λ r. ⌜ Put (now (out .entry)) at (b ∷ []) (now (out .exit)) r ⌝ }
 {
@@ -51,7 +53,7 @@ fn put_digits(out: &mut [u8], at: usize, n: u64, most: usize) -> usize
     put_byte(out, next, ZERO + (n % 10) as u8)
 }
 
-fn put_number(out: &mut [u8], at: usize, n: u64) -> usize
+pub fn put_number(out: &mut [u8], at: usize, n: u64) -> usize
     requires { ⌜ at + 20 ≤ length (now out) ⌝ }
     ensures { λ r. ⌜ Put (now (out .entry)) at (decimal n) (now (out .exit)) r × (r ≤ at + 20) ⌝ }
 {
@@ -99,13 +101,15 @@ fn put_section(out: &mut [u8], at: usize, title: &[u8], room: &[u8], of: Section
     put_entries(out, c, room, of)
 }
 
-// The held lines, then the deletions: at most 47,671 bytes.
+// The held lines, the deletions, the links: at most 64,082 bytes.
 pub fn put_catalogue(out: &mut [u8], room: &[u8]) -> usize
-    requires { ⌜ Ordered (now room) × (47671 ≤ length (now out)) ⌝ }
-    ensures { λ r. ⌜ Put (now (out .entry)) 0 (catalogueText (contents (now (room .entry)))) (now (out .exit)) r × (r ≤ 47671) ⌝ }
+    requires { ⌜ Ordered (now room) × (64082 ≤ length (now out)) ⌝ }
+    ensures { λ r. ⌜ Put (now (out .entry)) 0 (catalogueText (contents (now (room .entry)))) (now (out .exit)) r × (r ≤ 64082) ⌝ }
 {
     let held = held_in(room);
     let deletions = deletions_in(room, held);
+    let links = links_in(room, deletions);
     let at = put_section(out, 0, b"held ", room, held);
-    put_section(out, at, b"deleted ", room, deletions)
+    let next = put_section(out, at, b"deleted ", room, deletions);
+    put_links(out, next, room, links)
 }

@@ -4,8 +4,11 @@ use super::report::say_bytes;
 use super::report::say_count;
 use super::second::NONE;
 use super::second::Reading;
+use formats::Reply;
 use formats::cube::LineRead;
 use formats::cube::Read;
+use formats::cube_record::read_into;
+use formats::cube_record::write_from;
 
 // Of a group of lines: on how many the readers agree and differ, and how many both accept. Of all lines: how many got
 // each answer of the library.
@@ -81,6 +84,12 @@ fn same(a: Reading, b: Reading) -> bool {
     if a.kind != b.kind {
         return false;
     }
+    if a.type_length != b.type_length {
+        return false;
+    }
+    if a.address_length != b.address_length {
+        return false;
+    }
     if a.length != b.length {
         return false;
     }
@@ -97,14 +106,18 @@ pub fn as_reading(r: LineRead) -> Reading {
         answer: 0,
         column: 0,
         kind: NONE,
+        type_length: 0,
+        address_length: 0,
         length: 0,
         flags,
         values,
         text,
     };
     match read {
-        Read::There(kind, length) => {
+        Read::There(kind, type_length, address_length, length) => {
             out.kind = kind;
+            out.type_length = type_length;
+            out.address_length = address_length;
             out.length = length;
         }
         Read::Refused(answer, column) => {
@@ -163,4 +176,25 @@ pub fn compare(start: Counts, line: &[u8]) -> Counts {
     say_difference(line, a, b);
     c.differ = one_more(c.differ);
     c
+}
+
+// Whether the library's record of a line is written as that line.
+pub fn comes_back(line: &[u8]) -> bool {
+    let mut record = [0u8; 268];
+    let mut out = [0u8; 255];
+    if let Reply::Refused(_, _) = read_into(line, &mut record) {
+        return false;
+    }
+    match write_from(&record, &mut out) {
+        Reply::Refused(_, _) => false,
+        Reply::Done(length) => {
+            if length != line.len() {
+                return false;
+            }
+            if 255 < length {
+                return false;
+            }
+            same_bytes(line, &out[0..length])
+        }
+    }
 }

@@ -6,12 +6,16 @@ mod report;
 mod second;
 
 use compare::Counts;
+use compare::comes_back;
 use compare::compare;
 use report::say;
 use report::say_count;
 use report::say_event;
+use report::say_link;
+use second::Reading;
+ghost use Prim.Native.Nat.{_≤_};
 
-// The two E examples and the DE example of document 004, with blanks to 90 bytes.
+// The two E examples, the DE example and the two LI examples of document 004, with blanks to 90 bytes.
 const FIRST: [u8; 90] =
     *b"E 09082344CI21999040217051050339860-1169945017316000014001800120009004332C0002hP          ";
 
@@ -23,18 +27,50 @@ const DELETE: [u8; 90] =
 
 const DELETE_LENGTH: usize = 37;
 
-// Prints an example and what the library reads in it.
-fn show(line: [u8; 90]) {
+const LINK: [u8; 90] =
+    *b"LI 006729 NC01 fm http://whatever/whoknows This is a test                                 ";
+
+const LINK_LENGTH: usize = 57;
+
+const UNLINK: [u8; 90] =
+    *b"LI 006729 NC01 fm http://whatever/whoknows delete:                                        ";
+
+const UNLINK_LENGTH: usize = 50;
+
+// Prints an example and the library's answer to it.
+fn show(line: &[u8]) -> Reading {
     say(b"line ");
-    say(&line[0..80]);
+    say(line);
     say(b"\n");
-    let r = compare::as_reading(formats::cube::read_line(&line[0..80]));
+    let r = compare::as_reading(formats::cube::read_line(line));
     say(b"answer ");
     say_count(r.answer as u64);
     say(b"\ncolumn ");
     say_count(r.column as u64);
     say(b"\n");
-    say_event(r);
+    r
+}
+
+// Prints an LI example, and whether its record is written as the line that was read.
+fn show_link(line: &[u8]) {
+    say_link(show(line));
+    if comes_back(line) {
+        say(b"written back the same\n");
+    } else {
+        say(b"written back otherwise\n");
+    }
+}
+
+// Prints what the library reads in the examples.
+fn show_all() {
+    let first = FIRST;
+    let second = SECOND;
+    let link = LINK;
+    let unlink = UNLINK;
+    say_event(show(&first[0..80]));
+    say_event(show(&second[0..80]));
+    show_link(&link[0..LINK_LENGTH]);
+    show_link(&unlink[0..UNLINK_LENGTH]);
 }
 
 // Prints a group's counts; the answers are counted on.
@@ -59,8 +95,12 @@ fn close(name: &[u8], c: Counts) -> Counts {
 fn examples(start: Counts) -> Counts {
     let first = FIRST;
     let second = SECOND;
+    let link = LINK;
+    let unlink = UNLINK;
     let c = compare(start, &first[0..80]);
     let c = compare(c, &second[0..80]);
+    let c = compare(c, &link[0..LINK_LENGTH]);
+    let c = compare(c, &unlink[0..UNLINK_LENGTH]);
     close(b"examples", c)
 }
 
@@ -78,9 +118,11 @@ fn events(start: Counts, line: [u8; 90]) -> Counts {
     close(b"  lengths 0 to 90", c)
 }
 
-// The lines made from the DE example.
-fn deletes(start: Counts, line: [u8; 90]) -> Counts {
-    let c = groups::changed(start, line, DELETE_LENGTH);
+// The lines made from a DE or an LI example of `length` bytes.
+fn texts(start: Counts, line: [u8; 90], length: usize) -> Counts
+    requires { ⌜ length ≤ 90 ⌝ }
+{
+    let c = groups::changed(start, line, length);
     let c = close(b"  one byte changed", c);
     let c = groups::lengths(c, line);
     close(b"  lengths 0 to 90", c)
@@ -108,14 +150,17 @@ fn say_answers(c: Counts) {
 }
 
 fn main() {
-    show(FIRST);
-    show(SECOND);
+    show_all();
     let c = examples(compare::no_counts());
     say(b"from the first example\n");
     let c = events(c, FIRST);
     say(b"from the second example\n");
     let c = events(c, SECOND);
     say(b"from the delete example\n");
-    let c = deletes(c, DELETE);
+    let c = texts(c, DELETE, DELETE_LENGTH);
+    say(b"from the first link example\n");
+    let c = texts(c, LINK, LINK_LENGTH);
+    say(b"from the second link example\n");
+    let c = texts(c, UNLINK, UNLINK_LENGTH);
     say_answers(c);
 }

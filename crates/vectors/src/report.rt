@@ -26,8 +26,8 @@ pub fn say_bytes(s: &[u8]) {
 }
 
 // The bytes of a record's text from one place to another, by name.
-fn say_text(name: &[u8], text: &[u8; 78], from: usize, end: usize)
-    requires { ⌜ (from ≤ end) × (end ≤ 78) ⌝ }
+fn say_text(name: &[u8], text: &[u8; 250], from: usize, end: usize)
+    requires { ⌜ (from ≤ end) × (end ≤ 250) ⌝ }
 {
     let all = &text[..];
     say(name);
@@ -98,4 +98,36 @@ pub fn say_event(r: Reading) {
     say_text(b"magnitude letter", &text, 11, 12);
     say_numbers(&flags, &values, 17, 19);
     say_text(b"method", &text, 12, 13);
+}
+
+// A part of a link: its length comes with the record.
+fn say_part(name: &[u8], text: &[u8; 250], from: usize, length: usize) {
+    if 250 < from {
+        return;
+    }
+    if 250 - from < length {
+        return;
+    }
+    say_text(name, text, from, from + length);
+}
+
+// A link's values in the order of their columns.
+pub fn say_link(r: Reading) {
+    let text = r.text;
+    let kind = r.type_length;
+    let address = r.address_length;
+    let length = r.length;
+    say_text(b"identifier", &text, 0, 8);
+    say_text(b"source", &text, 8, 10);
+    say_text(b"version", &text, 10, 12);
+    say_part(b"type", &text, 12, kind);
+    if 250 < kind {
+        return;
+    }
+    let at = 12 + kind;
+    say_part(b"address", &text, at, address);
+    if 250 < address {
+        return;
+    }
+    say_part(b"text", &text, at + address, length);
 }

@@ -1,7 +1,9 @@
-// A second reader of CUBE lines, written from document 01 with plain loops. It has no table and shares no code with the
+// A second reader of CUBE lines, written from documents 01 and 02 with plain loops. It has no table and shares no code with the
 // library, so that an error of one is not repeated by the other.
+mod link;
 mod number;
 
+use link::read_link;
 use number::Number;
 use number::read_number;
 ghost use Prim.Native.Nat.{_+_, _≤_, _<_};
@@ -32,16 +34,21 @@ const EVENT: u8 = 1;
 
 const DELETE: u8 = 2;
 
-// An answer with its column and, of a line that was read, its kind, the length of a delete's free text, and the record:
-// 19 numbers with a flag for each that is not missing, and the text bytes in the order of their columns.
+const LINK: u8 = 4;
+
+// An answer with its column and, of a line that was read, its kind, the lengths of a link's type, address and text or of a
+// delete's free text, and the record: 19 numbers with a flag for each that is not missing, and the text bytes in the order of
+// their columns.
 pub struct Reading {
     pub answer: u8,
     pub column: usize,
     pub kind: u8,
+    pub type_length: usize,
+    pub address_length: usize,
     pub length: usize,
     pub flags: [u8; 19],
     pub values: [i64; 19],
-    pub text: [u8; 78],
+    pub text: [u8; 250],
 }
 
 fn wide(b: u8) -> u16 {
@@ -51,11 +58,13 @@ fn wide(b: u8) -> u16 {
 fn refused(answer: u8, column: usize) -> Reading {
     let flags = [0u8; 19];
     let values = [0i64; 19];
-    let text = [0u8; 78];
+    let text = [0u8; 250];
     Reading {
         answer,
         column,
         kind: NONE,
+        type_length: 0,
+        address_length: 0,
         length: 0,
         flags,
         values,
@@ -75,7 +84,8 @@ pub fn check_character(s: &[u8]) -> u8 {
     36 + ((sum % 91) as u8)
 }
 
-fn is_barred(b: u8, column: usize) -> bool {
+// Brackets are barred from column 3 to a last one.
+fn is_barred(b: u8, column: usize, last: usize) -> bool {
     if b < 32 {
         return true;
     }
@@ -85,7 +95,7 @@ fn is_barred(b: u8, column: usize) -> bool {
     if column < 3 {
         return false;
     }
-    if 13 < column {
+    if last < column {
         return false;
     }
     if b == b'[' {
@@ -95,10 +105,10 @@ fn is_barred(b: u8, column: usize) -> bool {
 }
 
 // The lowest column of a barred byte, or 0.
-fn lowest_barred(line: &[u8]) -> usize {
+fn lowest_barred(line: &[u8], last: usize) -> usize {
     let mut i = 0;
     while i < line.len() {
-        if is_barred(line[i], i + 1) {
+        if is_barred(line[i], i + 1, last) {
             return i + 1;
         }
         i += 1;
@@ -197,10 +207,10 @@ fn errors(r: Reading, line: &[u8]) -> Reading
 }
 
 // Copies all bytes into a record's text.
-fn text_of(s: &[u8]) -> [u8; 78]
-    requires { ⌜ length (now s) ≤ 78 ⌝ }
+fn text_of(s: &[u8]) -> [u8; 250]
+    requires { ⌜ length (now s) ≤ 250 ⌝ }
 {
-    let mut text = [0u8; 78];
+    let mut text = [0u8; 250];
     let mut i = 0;
     while i < s.len() {
         text[i] = s[i];
@@ -210,7 +220,7 @@ fn text_of(s: &[u8]) -> [u8; 78]
 }
 
 // The text columns of an event: 3 to 13, 74 and 79.
-fn event_text(line: &[u8]) -> [u8; 78]
+fn event_text(line: &[u8]) -> [u8; 250]
     requires { ⌜ length (now line) ≡ 80 ⌝ }
 {
     let mut text = text_of(&line[2..13]);
@@ -240,7 +250,7 @@ fn read_event(line: &[u8]) -> Reading {
     if line.len() != 80 {
         return refused(LENGTH, 0);
     }
-    let barred = lowest_barred(&line[0..79]);
+    let barred = lowest_barred(&line[0..79], 13);
     if barred != 0 {
         return refused(BARRED, barred);
     }
@@ -258,7 +268,7 @@ fn read_delete(line: &[u8]) -> Reading {
     if 80 < len {
         return refused(LENGTH, 0);
     }
-    let barred = lowest_barred(line);
+    let barred = lowest_barred(line, 13);
     if barred != 0 {
         return refused(BARRED, barred);
     }
@@ -270,7 +280,7 @@ fn read_delete(line: &[u8]) -> Reading {
     r
 }
 
-// Reads a line of either kind.
+// Reads a line of any kind.
 pub fn read_line(line: &[u8]) -> Reading {
     if line.len() < 2 {
         return refused(LENGTH, 0);
@@ -284,6 +294,12 @@ pub fn read_line(line: &[u8]) -> Reading {
     if line[0] == b'D' {
         if line[1] == b'E' {
             return read_delete(line);
+        }
+        return refused(TYPE, 1);
+    }
+    if line[0] == b'L' {
+        if line[1] == b'I' {
+            return read_link(line);
         }
         return refused(TYPE, 1);
     }

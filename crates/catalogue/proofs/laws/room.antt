@@ -4,9 +4,11 @@ pub mod Places
 pub mod Found
 pub mod Carry
 pub mod Untouched
+pub mod Linked
 pub mod Took
 pub mod Zeros
 pub mod Weight
 pub mod Order
+pub mod Saved
 pub mod LookUp
 pub mod Answered

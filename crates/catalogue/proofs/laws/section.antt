@@ -1,6 +1,7 @@
 pub mod Wide
 pub mod Splicing
 pub mod Keys
+pub mod Types
 pub mod Search
 pub mod Rows
 pub mod Laid

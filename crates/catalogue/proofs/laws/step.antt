@@ -1,4 +1,5 @@
 pub mod Line
+pub mod Link
 pub mod Names
 pub mod Good
 pub mod Decide

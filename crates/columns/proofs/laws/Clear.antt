@@ -61,6 +61,20 @@ module _ (from to : ℕ) (bars : Bool) where
       none-cons (isAllowed bars b) b k s refl (none-clear (k + 1) s (omega arith) (λ i l g. f i (omega arith) (omega arith))) h
       (rw (f k (omega arith) (omega arith)) at e)
 
+-- nothing barred: text throughout, brackets or not
+text-allowed : (bars : Bool) (b : ℕ) → isAllowed bars b ≡ true → isAllowed false b ≡ true
+text-allowed bars b e = let p = both-true (isText b) (pick bars (pick (isBracket b) false true) true) e in rw (p .0)
+
+module _ (from to : ℕ) where
+  text-cons : (t : Bool) (b k : ℕ) (s : List ℕ) → isAllowed (inside from to k) b ≡ t → (barred from to (k + 1) s ≡ 0 → Clear false s) → 0 < k → pick t (barred from to (k + 1) s) k ≡ 0 → Clear false (b ∷ s)
+  text-cons true b k s e f h q = more (text-allowed (inside from to k) b e) (f q)
+  text-cons false b k s e f h q = let y : ⊥ = omega arith in absurd y
+
+  pub barred-text : (k : ℕ) (s : List ℕ) → 0 < k → barred from to k s ≡ 0 → Clear false s
+  unfolding barred
+  barred-text k [] h e = none
+  barred-text k (b ∷ s) h e = text-cons (isAllowed (inside from to k) b) b k s refl (barred-text (k + 1) s (omega arith)) h e
+
 within-own : (bars : Bool) (at n i : ℕ) → at + 1 ≤ i → i < at + 1 + n → inside (pick bars (at + 1) 0) (pick bars (at + n) 0) i ≡ bars
 within-own true at n i l h = let g : i ≤ at + n = omega arith in rw (le-leb _ _ l, le-leb _ _ g)
 within-own false at n i l h = let z : 0 ≤ i = omega arith in let g : 0 < i = omega arith in rw (le-leb _ _ z, lt-leb _ _ g)

@@ -24,7 +24,7 @@ use Rattle.formats.specs.Record.{sameBytes}
 use Rattle.formats.specs.Header.{spacedFrom, phaseHeader}
 use Rattle.formats.specs.Block.{beforeTrimmed, trimEnd, isHeader, phase, kindOf, readLines, readHeaded, readBlock}
 use Rattle.formats.specs.BlockWriting.{ended, writeHeader, roomFrom, headerCall, recordCall, RepliedFrom, RecordCalls, noCalls, call, BlockCalls, written, ReadBack, noLines, line, WrittenBlock}
-use Rattle.formats.proofs.laws.CubeBack.{differs-same}
+use Rattle.formats.proofs.laws.Cube.{differs-same}
 use Rattle.formats.proofs.laws.PhaseRecordBack.{phase-written}
 use Rattle.formats.proofs.laws.BlockWriter.{header-size}
 use Rattle.formats.specs.declared.Reply.the-variants as R

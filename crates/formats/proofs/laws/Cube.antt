@@ -1,28 +1,42 @@
 -- Each answer of a CUBE line, as the code comes to it.
-use mathlib.Core.Path.{_≡_, sym, ap, _∙_}
-use mathlib.Core.Bool.{true, false}
+use mathlib.Core.Path.{_≡_, refl, sym, ap, _∙_}
+use mathlib.Core.Bool.{Bool, true, false}
 use mathlib.Core.List.{List, [], _++_}
 use Prim.Native.Nat.{ℕ, _-_, _≤_, _<_}
 use native.Mathlib.Omega.{arith}
 use lib.ListN.{length, take, drop, getD, replicate, length-drop, take-append-drop}
 use lib.IntN.{ℤ, pos}
-use borrow.Author.Tests.{ne-eqb, eq-eqb, le-ltb, lt-ltb}
+use lib.Dec.{eqb, ltb}
+use borrow.Author.Tests.{ne-eqb, eq-eqb, eqb-true, le-ltb, lt-ltb}
 use lib.Seq.{drop-drop, take-all}
 use Rattle.formats.specs.declared.cube.LineRead.{LineRead}
-use Rattle.columns.specs.Answer.{Answer, ok, refusal, barredByte}
+use Rattle.columns.specs.Answer.{pick, Answer, ok, refusal, barredByte}
 use Rattle.columns.specs.Column.{Rec}
 use Rattle.columns.specs.Reading.{readColumns}
 use Rattle.columns.specs.Table.{over}
 use Rattle.formats.specs.Check.{checkCharacter}
-use Rattle.formats.specs.Cube.{eventColumns, delete, eventKind, deleteKind, differs, asEvent, lowestBarred, readEvent, readDelete, readLine, lineOf, wrongLength, wrongType, wrongCheck, Message}
+use Rattle.formats.specs.Cube.{eventColumns, delete, eventKind, deleteKind, differs, asEvent, lowestBarred, isType, readEvent, readDelete, readLink, readLine, lineOf, wrongLength, wrongType, wrongCheck, Message}
+use Rattle.columns.proofs.laws.Answers.{passed}
 use Rattle.columns.proofs.laws.Reader.{Whole}
 use Rattle.formats.specs.declared.cube.Read.the-variants as R
 
 pub differs-not : (a b : ℕ) → a ≡ b → differs a b ≡ false
 differs-not a b e = rw (eq-eqb a b e)
 
+pub differs-same : (a b : ℕ) → differs a b ≡ false → a ≡ b
+differs-same a b e = by-test (eqb a b) refl e
+  where
+    by-test : (t : Bool) → eqb a b ≡ t → pick t false true ≡ false → a ≡ b
+    by-test true p q = eqb-true a b p
+    by-test false p q = let z : _≡_ {A = ℕ} 0 1 = cc in let y : ⊥ = omega arith in absurd y
+
 pub differs-is : (a b : ℕ) → (a ≡ b → ⊥) → differs a b ≡ true
 differs-is a b n = rw (ne-eqb a b n)
+
+-- what neither answer is, the one that a test picks is not
+pub pick-not : (f : Answer Message → Bool) (t : Bool) (a b : Answer Message) → f a ≡ false → f b ≡ false → f (pick t a b) ≡ false
+pick-not f true a b p q = p
+pick-not f false a b p q = q
 
 module _ (l : List ℕ) where
   -- ---- an E line
@@ -65,7 +79,7 @@ module _ (l : List ℕ) where
       unfolding readDelete
       delete-read b = rw (le-ltb _ _ h, le-ltb _ _ k, differs-not (lowestBarred l) 0 b)
 
-  -- ---- either kind
+  -- ---- any kind
 
   pub line-short : length l < 2 → readLine l ≡ refusal wrongLength 0
   unfolding readLine
@@ -88,20 +102,47 @@ module _ (l : List ℕ) where
     unfolding readLine
     line-no-delete a b = rw (le-ltb _ _ h, a, ne-eqb _ _ b)
 
-    pub line-other : (getD l 0 0 ≡ 69 → ⊥) → (getD l 0 0 ≡ 68 → ⊥) → readLine l ≡ refusal wrongType 1
+    pub line-link : getD l 0 0 ≡ 76 → getD l 1 0 ≡ 73 → readLine l ≡ readLink l
     unfolding readLine
-    line-other a b = rw (le-ltb _ _ h, ne-eqb (getD l 0 0) 69 a, ne-eqb (getD l 0 0) 68 b)
+    line-link a b = rw (le-ltb _ _ h, a, b)
+
+    pub line-no-link : getD l 0 0 ≡ 76 → (getD l 1 0 ≡ 73 → ⊥) → readLine l ≡ refusal wrongType 1
+    unfolding readLine
+    line-no-link a b = rw (le-ltb _ _ h, a, ne-eqb _ _ b)
+
+    pub line-other : (getD l 0 0 ≡ 69 → ⊥) → (getD l 0 0 ≡ 68 → ⊥) → (getD l 0 0 ≡ 76 → ⊥) → readLine l ≡ refusal wrongType 1
+    unfolding readLine
+    line-other a b c = rw (le-ltb _ _ h, ne-eqb (getD l 0 0) 69 a, ne-eqb (getD l 0 0) 68 b, ne-eqb (getD l 0 0) 76 c)
+
+-- ---- a line that is read, by its type
+
+pub data Came (l : List ℕ) (m : Message) : Type 0 where
+  by-event : readEvent l ≡ ok m → Came l m
+  by-delete : readDelete l ≡ ok m → Came l m
+  by-link : isType 76 73 l ≡ true → readLink l ≡ ok m → Came l m
+
+type-came : (s t u : Bool) (l : List ℕ) (m : Message) → isType 76 73 l ≡ u → pick s (readEvent l) (pick t (readDelete l) (pick u (readLink l) (refusal wrongType 1))) ≡ ok m → Came l m
+type-came true t u l m h e = by-event e
+type-came false true u l m h e = by-delete e
+type-came false false true l m h e = by-link h e
+type-came false false false l m h e = let z : _≡_ {A = ℕ} 0 1 = cc in let y : ⊥ = omega arith in absurd y
+
+pub came : (l : List ℕ) (m : Message) → readLine l ≡ ok m → Came l m
+unfolding readLine
+came l m e =
+    type-came (isType 69 32 l) (isType 68 69 l) (isType 76 73 l) l m refl
+    (passed (ltb (length l) 2) wrongLength 0 (pick (isType 69 32 l) (readEvent l) (pick (isType 68 69 l) (readDelete l) (pick (isType 76 73 l) (readLink l) (refusal wrongType 1)))) m e .1)
 
 -- ---- what the code returns
 
 -- a record that was read, in the arrays
-pub event-is : (a : Answer Rec) {f : List ℕ} {v : List ℤ} {t : List ℕ} → Whole a (replicate 19 0) f (replicate 19 (pos 0)) v (replicate 78 0) t → record { read = R.There eventKind 0; flags = f; values = v; text = t } ≡ lineOf (asEvent a)
+pub event-is : (a : Answer Rec) {f : List ℕ} {v : List ℤ} {t : List ℕ} → Whole a (replicate 19 0) f (replicate 19 (pos 0)) v (replicate 250 0) t → record { read = R.There eventKind 0 0 0; flags = f; values = v; text = t } ≡ lineOf (asEvent a)
 event-is a w = rw (w .is, w .flags, w .values, w .chars)
 
 pub refused-is : (a : Answer Rec) (n k : ℕ) → a ≡ refusal n k → lineOf (refusal n k) ≡ lineOf (asEvent a)
 refused-is a n k e = rw e
 
-pub delete-is : (l : List ℕ) → 13 ≤ length l → record { read = R.There deleteKind (length l - 13); flags = replicate 19 0; values = replicate 19 (pos 0); text = over (take (length l - 2) (drop 2 l)) (replicate 78 0) } ≡ lineOf (ok (delete (take 11 (drop 2 l)) (drop 13 l)))
+pub delete-is : (l : List ℕ) → 13 ≤ length l → record { read = R.There deleteKind 0 0 (length l - 13); flags = replicate 19 0; values = replicate 19 (pos 0); text = over (take (length l - 2) (drop 2 l)) (replicate 250 0) } ≡ lineOf (ok (delete (take 11 (drop 2 l)) (drop 13 l)))
 delete-is l h =
     let a : take (length l - 2) (drop 2 l) ≡ drop 2 l = take-all (length l - 2) (drop 2 l) (omega (arith, length-drop 2 l)) in
     let b : take 11 (drop 2 l) ++ drop 13 l ≡ drop 2 l = ap (λ (x : List ℕ). take 11 (drop 2 l) ++ x) (sym (drop-drop 11 2 l)) ∙ take-append-drop 11 (drop 2 l) in

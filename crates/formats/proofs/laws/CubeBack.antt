@@ -1,6 +1,5 @@
 -- Every CUBE record that is written reads back the same, and every record that was read is written.
 use mathlib.Core.Path.{_≡_, refl, sym, ap, _∙_, subst}
-use mathlib.Core.Bool.{Bool, true, false}
 use mathlib.Core.List.{List, [], _∷_, _++_}
 use Prim.Native.Nat.{ℕ, _+_, _≤_, _-_}
 use native.Mathlib.Omega.{arith}
@@ -8,28 +7,24 @@ use lib.ListN.{length, take, getD, length-append, drop, length-drop, take-append
 use lib.Dec.{ltb, eqb}
 use borrow.Author.Tests.{ltb-false, eqb-true}
 use lib.Seq.{take-at, drop-at, getD-at, length-take-le, drop-drop, take-add, take-take}
-use Rattle.columns.specs.Answer.{pick, Answer, ok, refusal, barredByte, tooShort}
+use Rattle.columns.specs.Answer.{Answer, ok, refusal, barredByte, tooShort}
 use Rattle.columns.specs.Bytes.{barred}
 use Rattle.columns.specs.Column.{Slot, good, widths, allSlots, allTexts, bracketsIn, Rec}
 use Rattle.columns.specs.Writing.{writeColumns}
 use Rattle.formats.specs.Check.{checkCharacter}
-use Rattle.formats.specs.Cube.{eventColumns, event, delete, unless, differs, sealed, sealedAnswer, lowestBarred, readLine, asEvent, writeMessage, wrongLength, Message, readEvent, readDelete, isType, wrongType, wrongCheck}
+use Rattle.formats.specs.Cube.{eventColumns, event, delete, link, unless, differs, sealed, sealedAnswer, lowestBarred, readLine, asEvent, writeMessage, wrongLength, Message, readEvent, readDelete, wrongCheck}
 use Rattle.columns.proofs.laws.Columns.{Line, columns-back, columns-more-bytes}
 use Rattle.columns.proofs.laws.Stretch.{clean-line, barred-split, line-clean}
 use Rattle.columns.proofs.laws.Answers.{passed}
-use Rattle.formats.proofs.laws.Cube.{line-event, event-columns, line-delete, delete-read}
+use Rattle.columns.proofs.laws.Tests.{both-true}
+use Rattle.formats.proofs.laws.Cube.{differs-same, line-event, event-columns, line-delete, delete-read, Came, by-event, by-delete, by-link, came}
 use Rattle.columns.specs.Reading.{readColumns}
 use Rattle.columns.proofs.laws.Accepted.{columns-accepted}
 use Rattle.formats.proofs.laws.CubeWriting.{put-event, put-delete}
+use Rattle.formats.proofs.laws.LinkBack.{ReadLink, link-read, parts-inside, link-accepted}
+use Rattle.formats.proofs.laws.Link.{text-length}
 
 -- ---- what an accepted record says
-
-pub differs-same : (a b : ℕ) → differs a b ≡ false → a ≡ b
-differs-same a b e = by-test (eqb a b) refl e
-  where
-    by-test : (t : Bool) → eqb a b ≡ t → pick t false true ≡ false → a ≡ b
-    by-test true p q = eqb-true a b p
-    by-test false p q = let z : _≡_ {A = ℕ} 0 1 = cc in let y : ⊥ = omega arith in absurd y
 
 record Sealed (a : Answer (List ℕ)) (ys : List ℕ) : Type 0 where
   columns : List ℕ
@@ -123,10 +118,11 @@ delete-back names t ys room n e =
 abbrev pub Sized : Message → Type 0
 Sized (event ns t) = (length ns ≡ 19) × (length t ≡ 13)
 Sized (delete names t) = (length names ≡ 11) × (length t ≤ 67)
+Sized (link names ty ad tx) = (length names ≡ 12) × (length ty + length ad + length tx ≤ 238)
 
 pub record Accepts (m : Message) : Type 0 where
   pub bytes : List ℕ
-  pub is : writeMessage m 80 ≡ ok bytes
+  pub is : writeMessage m 255 ≡ ok bytes
   pub sized : Sized m
 
 record Was (a : Answer Rec) (m : Message) : Type 0 where
@@ -161,7 +157,7 @@ event-accepted l m e =
     let d : readColumns eventColumns [] 2 (take 77 (drop 2 l)) ≡ ok (w .value) =
     sym (columns-more-bytes eventColumns [] 2 (take 77 (drop 2 l)) (drop 77 (drop 2 l)) (omega arith)) ∙ ap (readColumns eventColumns [] 2) (take-append-drop 77 (drop 2 l)) ∙ w .read in
     let x = columns-accepted eventColumns [] 2 (take 77 (drop 2 l)) (w .value) tt (omega arith) (line-clean 3 13 eventColumns 2 (take 77 (drop 2 l)) tt k b) d in
-    subst Accepts (w .is) (record { bytes = sealed (x .bytes); is = put-event (w .value .numbers) (w .value .chars) 80 (omega arith) (x .bytes) (x .written); sized = (x .numbers, x .chars) })
+    subst Accepts (w .is) (record { bytes = sealed (x .bytes); is = put-event (w .value .numbers) (w .value .chars) 255 (omega arith) (x .bytes) (x .written); sized = (x .numbers, x .chars) })
 
 delete-accepted : (l : List ℕ) (m : Message) → readDelete l ≡ ok m → Accepts m
 unfolding readDelete
@@ -177,15 +173,21 @@ delete-accepted l m e =
     let n : length (drop 2 l) ≡ length l - 2 = length-drop 2 l in
     let j : take 11 (drop 2 l) ++ drop 13 l ≡ drop 2 l = ap (λ (x : List ℕ). take 11 (drop 2 l) ++ x) (sym d) ∙ take-append-drop 11 (drop 2 l) in
     let t : length (drop 13 l) ≡ length l - 13 = length-drop 13 l in
-    let w = put-delete (take 11 (drop 2 l)) (drop 13 l) 80 (omega arith) (omega arith) (ap (barred 3 13 3) j ∙ b) in
+    let w = put-delete (take 11 (drop 2 l)) (drop 13 l) 255 (omega arith) (omega arith) (ap (barred 3 13 3) j ∙ b) in
     subst Accepts i (record { bytes = 68 ∷ 69 ∷ (take 11 (drop 2 l) ++ drop 13 l); is = w; sized = (length-take-le 11 (drop 2 l) (omega arith), omega arith) })
 
-type-case : (s t : Bool) (l : List ℕ) (m : Message) → pick s (readEvent l) (pick t (readDelete l) (refusal wrongType 1)) ≡ ok m → Accepts m
-type-case true t l m e = event-accepted l m e
-type-case false true l m e = delete-accepted l m e
-type-case false false l m e = let z : _≡_ {A = ℕ} 0 1 = cc in let y : ⊥ = omega arith in absurd y
+link-sized : (l : List ℕ) {m : Message} → ReadLink l m → Sized m
+link-sized l w =
+    subst Sized (w .is)
+    (length-take-le 12 (drop 2 l) (omega (arith, length-drop 2 l, w .long)), omega (arith, parts-inside l w, text-length l, w .short))
+
+by-type : (l : List ℕ) (m : Message) → Came l m → Accepts m
+by-type l m (by-event e) = event-accepted l m e
+by-type l m (by-delete e) = delete-accepted l m e
+by-type l m (by-link t e) =
+    let w = link-read l m e in
+    let p = both-true (eqb (getD l 0 0) 76) (eqb (getD l 1 0) 73) t in
+    record { bytes = l; is = link-accepted l w (eqb-true (getD l 0 0) 76 (p .0)) (eqb-true (getD l 1 0) 73 (p .1)) 255 (w .short); sized = link-sized l w }
 
 pub line-accepted : (l : List ℕ) (m : Message) → readLine l ≡ ok m → Accepts m
-unfolding readLine
-line-accepted l m e =
-    type-case (isType 69 32 l) (isType 68 69 l) l m (passed (ltb (length l) 2) wrongLength 0 (pick (isType 69 32 l) (readEvent l) (pick (isType 68 69 l) (readDelete l) (refusal wrongType 1))) m e .1)
+line-accepted l m e = by-type l m (came l m e)

@@ -4,7 +4,7 @@ use mathlib.Core.Bool.{Bool, true, false}
 use mathlib.Core.List.{List, [], _∷_, _++_}
 use Prim.Native.Nat.{ℕ, _+_, _-_, _≤_, _<_}
 use native.Mathlib.Omega.{arith}
-use lib.ListN.{length, take, drop, getD, set, replicate, length-append, length-drop, length-take}
+use lib.ListN.{length, take, drop, getD, replicate, length-append, length-drop, length-take}
 use lib.Seq.{take-at, take-all, take-add, take-take, drop-drop, length-take-le}
 use lib.IntN.{ℤ, pos}
 use borrow.Author.Tests.{lt-ltb, le-ltb, ne-eqb}
@@ -13,16 +13,14 @@ use Rattle.columns.specs.Answer.{pick, Answer, ok, refusal, badForm, tooShort}
 use Rattle.columns.specs.Column.{Slot, missing, given}
 use Rattle.columns.specs.Table.{flagsOf, valuesOf, slotsOf, over, placed, Wrote, laid}
 use Rattle.columns.proofs.laws.Answers.{over-whole, done-of, refused-of}
-use Rattle.columns.proofs.laws.Places.{placed-placed}
 use Rattle.columns.proofs.laws.Table.{flags-length, values-length}
 use Rattle.formats.specs.declared.cube.Read.{Read}
 use Rattle.formats.specs.declared.cube.LineRead.{LineRead}
 use Rattle.formats.specs.declared.Reply.{Reply}
-use Rattle.formats.specs.Cube.{Message, event, delete, eventKind, deleteKind, readLine, lineOf, writeMessage}
+use Rattle.formats.specs.Cube.{Message, event, delete, link, eventKind, deleteKind, linkKind, readLine, lineOf, writeMessage}
 use Rattle.formats.specs.Record.{packed, slotsIn, sameBytes, replied, Replied}
-use Rattle.formats.specs.CubeRecord.{filled, recordOf, eventIn, deleteIn, messageIn, readRecord, recordAnswer, readInto, writeFrom}
-use Rattle.formats.proofs.laws.Record.{numbers-length, packed-length}
-use Rattle.formats.proofs.laws.CubeWriting.{two-placed}
+use Rattle.formats.specs.CubeRecord.{filled, recordOf, eventIn, deleteIn, linkIn, messageIn, readRecord, recordAnswer, readInto, writeFrom}
+use Rattle.formats.proofs.laws.Record.{numbers-length, packed-length, part-over}
 use Rattle.formats.proofs.laws.CubeBack.{Sized, line-accepted, event-size, delete-size}
 use Rattle.columns.specs.declared.Outcome.the-variants as O
 use Rattle.formats.specs.declared.cube.Read.the-variants as R
@@ -60,11 +58,10 @@ module _ {a : Answer (List ℕ)} {r : Outcome} {from to : List ℕ} (w : Wrote a
 pub replied-as : (a b : Answer (List ℕ)) (r : Reply) (from to : List ℕ) → b ≡ a → Replied b r from to → Replied a r from to
 replied-as a b r from to e w = rw (← e) w
 
--- ---- the bytes of a delete
+-- ---- the kind and the lengths of a delete or a link, then its names and texts
 
-pub delete-filled : (n : ℕ) (s : List ℕ) → length s ≤ 266 → placed 2 s (set (set (replicate 268 0) 0 deleteKind) 1 n) ≡ filled (deleteKind ∷ n ∷ s)
-delete-filled n s h =
-    ap (placed 2 s) (two-placed (replicate 268 0) deleteKind n (omega arith)) ∙ placed-placed 0 2 (deleteKind ∷ n ∷ []) s (replicate 268 0) refl (omega arith)
+pub text-filled : (h s : List ℕ) → length h + length s ≤ 268 → placed (length h) s (placed 0 h (replicate 268 0)) ≡ filled (h ++ s)
+text-filled h s n = part-over h s (replicate 268 0) (placed 0 h (replicate 268 0)) (length h) refl refl n
 
 -- ---- a line read into a record
 
@@ -84,52 +81,93 @@ pub record WasEvent (a : Answer Message) (r : LineRead) : Type 0 where
   pub is : a ≡ ok (event numbers chars)
   pub flags : r .flags ≡ over (flagsOf numbers) (replicate 19 0)
   pub values : r .values ≡ over (valuesOf numbers) (replicate 19 (pos 0))
-  pub text : r .text ≡ over chars (replicate 78 0)
-
-read-is : (a : Answer Message) (r : LineRead) → r ≡ lineOf a → (x : Read) → r .read ≡ x → lineOf a .read ≡ x
-read-is a r e x q = sym (ap (λ (u : LineRead). u .read) e) ∙ q
-
-pub was-event : (a : Answer Message) (r : LineRead) (k n : ℕ) → r ≡ lineOf a → r .read ≡ R.There k n → k ≡ eventKind → WasEvent a r
-was-event (ok (event ns t)) r k n e q h =
-    record { numbers = ns; chars = t; is = refl; flags = ap (λ (x : LineRead). x .flags) e; values = ap (λ (x : LineRead). x .values) e; text = ap (λ (x : LineRead). x .text) e }
-was-event (ok (delete names t)) r k n e q h =
-    let p : R.There deleteKind (length t) ≡ R.There k n = read-is (ok (delete names t)) r e (R.There k n) q in
-    let z : deleteKind ≡ k = cc in
-    let y : ⊥ = omega arith in
-    absurd y
-was-event (refusal m j) r k n e q h = let p : R.Refused m j ≡ R.There k n = read-is (refusal m j) r e (R.There k n) q in let z : _≡_ {A = ℕ} 0 1 = cc in let y : ⊥ = omega arith in absurd y
+  pub text : r .text ≡ over chars (replicate 250 0)
 
 pub record WasDelete (a : Answer Message) (r : LineRead) (n : ℕ) : Type 0 where
   pub names : List ℕ
   pub chars : List ℕ
   pub is : a ≡ ok (delete names chars)
   pub size : length chars ≡ n
-  pub text : r .text ≡ over (names ++ chars) (replicate 78 0)
+  pub text : r .text ≡ over (names ++ chars) (replicate 250 0)
 
--- a record that is there and is no event is a delete
-pub was-delete : (a : Answer Message) (r : LineRead) (k n : ℕ) → r ≡ lineOf a → r .read ≡ R.There k n → (k ≡ eventKind → ⊥) → WasDelete a r n
-was-delete (ok (event ns t)) r k n e q h =
-    let p : R.There eventKind 0 ≡ R.There k n = read-is (ok (event ns t)) r e (R.There k n) q in
-    let z : k ≡ eventKind = cc in
-    absurd (h z)
-was-delete (ok (delete names t)) r k n e q h =
-    let p : R.There deleteKind (length t) ≡ R.There k n = read-is (ok (delete names t)) r e (R.There k n) q in
-    record { names = names; chars = t; is = refl; size = cc; text = ap (λ (x : LineRead). x .text) e }
-was-delete (refusal m j) r k n e q h = let p : R.Refused m j ≡ R.There k n = read-is (refusal m j) r e (R.There k n) q in let z : _≡_ {A = ℕ} 0 1 = cc in let y : ⊥ = omega arith in absurd y
+pub record WasLink (a : Answer Message) (r : LineRead) (t d n : ℕ) : Type 0 where
+  pub names : List ℕ
+  pub kind : List ℕ
+  pub address : List ℕ
+  pub chars : List ℕ
+  pub is : a ≡ ok (link names kind address chars)
+  pub kind-size : length kind ≡ t
+  pub address-size : length address ≡ d
+  pub size : length chars ≡ n
+  pub text : r .text ≡ over (names ++ (kind ++ (address ++ chars))) (replicate 250 0)
+
+-- a record that is there is of one of the three kinds
+pub data WasThere (a : Answer Message) (r : LineRead) (k t d n : ℕ) : Type 0 where
+  an-event : k ≡ eventKind → WasEvent a r → WasThere a r k t d n
+  a-delete : k ≡ deleteKind → WasDelete a r n → WasThere a r k t d n
+  a-link : k ≡ linkKind → WasLink a r t d n → WasThere a r k t d n
+
+read-is : (a : Answer Message) (r : LineRead) → r ≡ lineOf a → (x : Read) → r .read ≡ x → lineOf a .read ≡ x
+read-is a r e x q = sym (ap (λ (u : LineRead). u .read) e) ∙ q
+
+pub was-there : (a : Answer Message) (r : LineRead) (k t d n : ℕ) → r ≡ lineOf a → r .read ≡ R.There k t d n → WasThere a r k t d n
+was-there (ok (event ns s)) r k t d n e q =
+    let p : R.There eventKind 0 0 0 ≡ R.There k t d n = read-is (ok (event ns s)) r e (R.There k t d n) q in
+    an-event (cc) (record { numbers = ns; chars = s; is = refl; flags = ap (λ (x : LineRead). x .flags) e; values = ap (λ (x : LineRead). x .values) e; text = ap (λ (x : LineRead). x .text) e })
+was-there (ok (delete names s)) r k t d n e q =
+    let p : R.There deleteKind 0 0 (length s) ≡ R.There k t d n = read-is (ok (delete names s)) r e (R.There k t d n) q in
+    a-delete (cc) (record { names = names; chars = s; is = refl; size = cc; text = ap (λ (x : LineRead). x .text) e })
+was-there (ok (link names ty ad tx)) r k t d n e q =
+    let p : R.There linkKind (length ty) (length ad) (length tx) ≡ R.There k t d n = read-is (ok (link names ty ad tx)) r e (R.There k t d n) q in
+    a-link (cc)
+    (record { names = names; kind = ty; address = ad; chars = tx; is = refl; kind-size = cc; address-size = cc; size = cc; text = ap (λ (x : LineRead). x .text) e })
+was-there (refusal m j) r k t d n e q = let p : R.Refused m j ≡ R.There k t d n = read-is (refusal m j) r e (R.There k t d n) q in let z : _≡_ {A = ℕ} 0 1 = cc in let y : ⊥ = omega arith in absurd y
+
+module _ (a : Answer Message) (r : LineRead) (k t d n : ℕ) (e : r ≡ lineOf a) (q : r .read ≡ R.There k t d n) where
+  pub was-event : k ≡ eventKind → WasEvent a r
+  was-event h =
+      elim (was-there a r k t d n e q) [
+        | an-event i w ↦ w
+        | a-delete i w ↦ absurd (omega arith)
+        | a-link i w ↦ absurd (omega arith)
+      ]
+
+  pub was-link : k ≡ linkKind → WasLink a r t d n
+  was-link h =
+      elim (was-there a r k t d n e q) [
+        | an-event i w ↦ absurd (omega arith)
+        | a-delete i w ↦ absurd (omega arith)
+        | a-link i w ↦ w
+      ]
+
+  pub was-delete : (k ≡ eventKind → ⊥) → (k ≡ linkKind → ⊥) → WasDelete a r n
+  was-delete h j =
+      elim (was-there a r k t d n e q) [
+        | an-event i w ↦ absurd (h i)
+        | a-delete i w ↦ w
+        | a-link i w ↦ absurd (j i)
+      ]
 
 pub was-refused : (a : Answer Message) (r : LineRead) (n k : ℕ) → r ≡ lineOf a → r .read ≡ R.Refused n k → a ≡ refusal n k
-was-refused (ok (event ns t)) r n k e q = let p : R.There eventKind 0 ≡ R.Refused n k = read-is (ok (event ns t)) r e (R.Refused n k) q in let z : _≡_ {A = ℕ} 0 1 = cc in let y : ⊥ = omega arith in absurd y
-was-refused (ok (delete names t)) r n k e q = let p : R.There deleteKind (length t) ≡ R.Refused n k = read-is (ok (delete names t)) r e (R.Refused n k) q in let z : _≡_ {A = ℕ} 0 1 = cc in let y : ⊥ = omega arith in absurd y
+was-refused (ok (event ns t)) r n k e q = let p : R.There eventKind 0 0 0 ≡ R.Refused n k = read-is (ok (event ns t)) r e (R.Refused n k) q in let z : _≡_ {A = ℕ} 0 1 = cc in let y : ⊥ = omega arith in absurd y
+was-refused (ok (delete names t)) r n k e q = let p : R.There deleteKind 0 0 (length t) ≡ R.Refused n k = read-is (ok (delete names t)) r e (R.Refused n k) q in let z : _≡_ {A = ℕ} 0 1 = cc in let y : ⊥ = omega arith in absurd y
+was-refused (ok (link names ty ad tx)) r n k e q = let p : R.There linkKind (length ty) (length ad) (length tx) ≡ R.Refused n k = read-is (ok (link names ty ad tx)) r e (R.Refused n k) q in let z : _≡_ {A = ℕ} 0 1 = cc in let y : ⊥ = omega arith in absurd y
 was-refused (refusal m j) r n k e q = let p : R.Refused m j ≡ R.Refused n k = read-is (refusal m j) r e (R.Refused n k) q in cc
 
 over-length : {A : Type 0} (xs l : List A) → length xs ≤ length l → length (over xs l) ≡ length l
 over-length xs l h = length-append xs (drop (length xs) l) ∙ omega (arith, length-drop (length xs) l)
 
-text-of : (a : Answer Message) → ((m : Message) → a ≡ ok m → Sized m) → length (lineOf a .text) ≡ 78
-text-of (ok (event ns t)) f = let s : Sized (event ns t) = f (event ns t) refl in over-length t (replicate 78 0) (omega (arith, s .1))
+pub parts-length : (names ty ad tx : List ℕ) → length (names ++ (ty ++ (ad ++ tx))) ≡ length names + length ty + length ad + length tx
+parts-length names ty ad tx = omega (arith, length-append names (ty ++ (ad ++ tx)), length-append ty (ad ++ tx), length-append ad tx)
+
+text-of : (a : Answer Message) → ((m : Message) → a ≡ ok m → Sized m) → length (lineOf a .text) ≡ 250
+text-of (ok (event ns t)) f = let s : Sized (event ns t) = f (event ns t) refl in over-length t (replicate 250 0) (omega (arith, s .1))
 text-of (ok (delete names t)) f =
     let s : Sized (delete names t) = f (delete names t) refl in
-    over-length (names ++ t) (replicate 78 0) (omega (arith, length-append names t, s .0, s .1))
+    over-length (names ++ t) (replicate 250 0) (omega (arith, length-append names t, s .0, s .1))
+text-of (ok (link names ty ad tx)) f =
+    let s : Sized (link names ty ad tx) = f (link names ty ad tx) refl in
+    over-length (names ++ (ty ++ (ad ++ tx))) (replicate 250 0) (omega (arith, parts-length names ty ad tx, s .0, s .1))
 text-of (refusal n k) f = refl
 
 packed-same : {f g : List ℕ} {v w : List ℤ} {s t : List ℕ} → f ≡ g → v ≡ w → s ≡ t → _≡_ {A = Answer (List ℕ)} (ok (filled (packed eventKind g w t))) (ok (filled (packed eventKind f v s)))
@@ -137,39 +175,55 @@ packed-same p q r = rw (p, q, r)
 
 -- the bytes that the code makes of an outcome
 module _ (l : List ℕ) (r : LineRead) (e : r ≡ lineOf (readLine l)) where
-  pub event-record : (k n : ℕ) → r .read ≡ R.There k n → k ≡ eventKind → recordAnswer (readLine l) ≡ ok (filled (packed eventKind (r .flags) (r .values) (take 13 (r .text))))
-  event-record k n q h =
-      let w = was-event (readLine l) r k n e q h in
-      let s = line-accepted l (event (w .numbers) (w .chars)) (w .is) .sized in
-      let f : r .flags ≡ flagsOf (w .numbers) = w .flags ∙ over-whole (flagsOf (w .numbers)) (replicate 19 0) (flags-length (w .numbers) ∙ s .0) in
-      let v : r .values ≡ valuesOf (w .numbers) = w .values ∙ over-whole (valuesOf (w .numbers)) (replicate 19 (pos 0)) (values-length (w .numbers) ∙ s .0) in
-      let t : take 13 (r .text) ≡ w .chars = ap (take 13) (w .text) ∙ take-at (w .chars) _ 13 (s .1) in
-      ap recordAnswer (w .is) ∙ packed-same f v t
-
-  pub text-size : length (r .text) ≡ 78
+  pub text-size : length (r .text) ≡ 250
   text-size = ap (λ (x : LineRead). length (x .text)) e ∙ text-of (readLine l) (λ m q. line-accepted l m q .sized)
 
-  pub event-fits : (k n : ℕ) → r .read ≡ R.There k n → k ≡ eventKind → length (packed eventKind (r .flags) (r .values) (take 13 (r .text))) ≤ 268
-  event-fits k n q h =
-      let w = was-event (readLine l) r k n e q h in
-      let s = line-accepted l (event (w .numbers) (w .chars)) (w .is) .sized in
-      let f : length (r .flags) ≡ 19 = ap length (w .flags ∙ over-whole (flagsOf (w .numbers)) (replicate 19 0) (flags-length (w .numbers) ∙ s .0)) ∙ flags-length (w .numbers) ∙ s .0 in
-      let v : length (r .values) ≡ 19 = ap length (w .values ∙ over-whole (valuesOf (w .numbers)) (replicate 19 (pos 0)) (values-length (w .numbers) ∙ s .0)) ∙ values-length (w .numbers) ∙ s .0 in
-      omega (arith, packed-length eventKind (r .flags) (r .values) (take 13 (r .text)), length-take 13 (r .text), f, v)
+  module _ (k t d n : ℕ) (q : r .read ≡ R.There k t d n) where
+    pub event-record : k ≡ eventKind → recordAnswer (readLine l) ≡ ok (filled (packed eventKind (r .flags) (r .values) (take 13 (r .text))))
+    event-record h =
+        let w = was-event (readLine l) r k t d n e q h in
+        let s = line-accepted l (event (w .numbers) (w .chars)) (w .is) .sized in
+        let f : r .flags ≡ flagsOf (w .numbers) = w .flags ∙ over-whole (flagsOf (w .numbers)) (replicate 19 0) (flags-length (w .numbers) ∙ s .0) in
+        let v : r .values ≡ valuesOf (w .numbers) = w .values ∙ over-whole (valuesOf (w .numbers)) (replicate 19 (pos 0)) (values-length (w .numbers) ∙ s .0) in
+        let c : take 13 (r .text) ≡ w .chars = ap (take 13) (w .text) ∙ take-at (w .chars) _ 13 (s .1) in
+        ap recordAnswer (w .is) ∙ packed-same f v c
 
-  pub delete-low : (k n : ℕ) → r .read ≡ R.There k n → (k ≡ eventKind → ⊥) → n ≤ 67
-  delete-low k n q h =
-      let w = was-delete (readLine l) r k n e q h in
-      let s = line-accepted l (delete (w .names) (w .chars)) (w .is) .sized in
-      omega (arith, s .1, w .size)
+    pub event-fits : k ≡ eventKind → length (packed eventKind (r .flags) (r .values) (take 13 (r .text))) ≤ 268
+    event-fits h =
+        let w = was-event (readLine l) r k t d n e q h in
+        let s = line-accepted l (event (w .numbers) (w .chars)) (w .is) .sized in
+        let f : length (r .flags) ≡ 19 = ap length (w .flags ∙ over-whole (flagsOf (w .numbers)) (replicate 19 0) (flags-length (w .numbers) ∙ s .0)) ∙ flags-length (w .numbers) ∙ s .0 in
+        let v : length (r .values) ≡ 19 = ap length (w .values ∙ over-whole (valuesOf (w .numbers)) (replicate 19 (pos 0)) (values-length (w .numbers) ∙ s .0)) ∙ values-length (w .numbers) ∙ s .0 in
+        omega (arith, packed-length eventKind (r .flags) (r .values) (take 13 (r .text)), length-take 13 (r .text), f, v)
 
-  pub delete-record : (k n : ℕ) → r .read ≡ R.There k n → (k ≡ eventKind → ⊥) → recordAnswer (readLine l) ≡ ok (filled (deleteKind ∷ n ∷ take (11 + n) (r .text)))
-  delete-record k n q h =
-      let w = was-delete (readLine l) r k n e q h in
-      let s = line-accepted l (delete (w .names) (w .chars)) (w .is) .sized in
-      let m : length (w .names ++ w .chars) ≡ 11 + n = length-append (w .names) (w .chars) ∙ omega (arith, s .0, w .size) in
-      let t : take (11 + n) (r .text) ≡ w .names ++ w .chars = ap (take (11 + n)) (w .text) ∙ take-at (w .names ++ w .chars) _ (11 + n) m in
-      ap recordAnswer (w .is) ∙ rw (t, w .size)
+    pub link-low : k ≡ linkKind → t + d + n ≤ 238
+    link-low h =
+        let w = was-link (readLine l) r k t d n e q h in
+        let s = line-accepted l (link (w .names) (w .kind) (w .address) (w .chars)) (w .is) .sized in
+        omega (arith, s .1, w .kind-size, w .address-size, w .size)
+
+    pub link-record : k ≡ linkKind → recordAnswer (readLine l) ≡ ok (filled (linkKind ∷ t ∷ d ∷ n ∷ take (12 + t + d + n) (r .text)))
+    link-record h =
+        let w = was-link (readLine l) r k t d n e q h in
+        let s = line-accepted l (link (w .names) (w .kind) (w .address) (w .chars)) (w .is) .sized in
+        let m : length (w .names ++ (w .kind ++ (w .address ++ w .chars))) ≡ 12 + t + d + n = parts-length (w .names) (w .kind) (w .address) (w .chars) ∙ omega (arith, s .0, w .kind-size, w .address-size, w .size) in
+        let c : take (12 + t + d + n) (r .text) ≡ w .names ++ (w .kind ++ (w .address ++ w .chars)) = ap (take (12 + t + d + n)) (w .text) ∙ take-at (w .names ++ (w .kind ++ (w .address ++ w .chars))) _ (12 + t + d + n) m in
+        ap recordAnswer (w .is) ∙ rw (c, w .kind-size, w .address-size, w .size)
+
+    module _ (h : k ≡ eventKind → ⊥) (j : k ≡ linkKind → ⊥) where
+      pub delete-low : n ≤ 67
+      delete-low =
+          let w = was-delete (readLine l) r k t d n e q h j in
+          let s = line-accepted l (delete (w .names) (w .chars)) (w .is) .sized in
+          omega (arith, s .1, w .size)
+
+      pub delete-record : recordAnswer (readLine l) ≡ ok (filled (deleteKind ∷ n ∷ take (11 + n) (r .text)))
+      delete-record =
+          let w = was-delete (readLine l) r k t d n e q h j in
+          let s = line-accepted l (delete (w .names) (w .chars)) (w .is) .sized in
+          let m : length (w .names ++ w .chars) ≡ 11 + n = length-append (w .names) (w .chars) ∙ omega (arith, s .0, w .size) in
+          let c : take (11 + n) (r .text) ≡ w .names ++ w .chars = ap (take (11 + n)) (w .text) ∙ take-at (w .names ++ w .chars) _ (11 + n) m in
+          ap recordAnswer (w .is) ∙ rw (c, w .size)
 
 pub filled-length : (s : List ℕ) → length s ≤ 268 → length (filled s) ≡ 268
 filled-length s h = length-append s (drop (length s) (replicate 268 0)) ∙ omega (arith, length-drop {A = ℕ} (length s) (replicate 268 0))
@@ -180,18 +234,21 @@ module _ (l out : List ℕ) (h : 268 ≤ length out) (r : LineRead) (e : r ≡ l
       replied-refused _ out n k (into-read l (length out) h ∙ ap recordAnswer (was-refused (readLine l) r n k e q))
 
   -- the record that the code made, copied out
-  module _ (k n : ℕ) (q : r .read ≡ R.There k n) where
-    pub read-event : k ≡ eventKind → (bytes to : List ℕ) → bytes ≡ filled (packed eventKind (r .flags) (r .values) (take 13 (r .text))) → to ≡ over bytes out → Replied (readInto l (length out)) (P.Done 268) out to
-    read-event i bytes to b f =
-        let w = event-record l r e k n q i in
-        replied-done _ out bytes to 268 (into-read l (length out) h ∙ w ∙ ap ok (sym b)) (ap length b ∙ filled-length (packed eventKind (r .flags) (r .values) (take 13 (r .text))) (event-fits l r e k n q i)) f
+  module _ (bytes to : List ℕ) (f : to ≡ over bytes out) where
+    made : (s : List ℕ) → bytes ≡ filled s → length s ≤ 268 → recordAnswer (readLine l) ≡ ok (filled s) → Replied (readInto l (length out)) (P.Done 268) out to
+    made s b n w = replied-done _ out bytes to 268 (into-read l (length out) h ∙ w ∙ ap ok (sym b)) (ap length b ∙ filled-length s n) f
 
-    pub read-delete : (k ≡ eventKind → ⊥) → (bytes to : List ℕ) → bytes ≡ filled (deleteKind ∷ n ∷ take (11 + n - 0) (r .text)) → to ≡ over bytes out → Replied (readInto l (length out)) (P.Done 268) out to
-    read-delete i bytes to d f =
-        let z : 11 + n - 0 ≡ 11 + n = omega arith in
-        let b : bytes ≡ filled (deleteKind ∷ n ∷ take (11 + n) (r .text)) = d ∙ rw z in
-        let w = delete-record l r e k n q i in
-        replied-done _ out bytes to 268 (into-read l (length out) h ∙ w ∙ ap ok (sym b)) (ap length b ∙ filled-length (deleteKind ∷ n ∷ take (11 + n) (r .text)) (omega (arith, length-take (11 + n) (r .text), delete-low l r e k n q i))) f
+    module _ (k t d n : ℕ) (q : r .read ≡ R.There k t d n) where
+      pub read-event : k ≡ eventKind → bytes ≡ filled (packed eventKind (r .flags) (r .values) (take 13 (r .text))) → Replied (readInto l (length out)) (P.Done 268) out to
+      read-event i b = made (packed eventKind (r .flags) (r .values) (take 13 (r .text))) b (event-fits l r e k t d n q i) (event-record l r e k t d n q i)
+
+      pub read-link : k ≡ linkKind → bytes ≡ filled (linkKind ∷ t ∷ d ∷ n ∷ take (12 + t + d + n) (r .text)) → Replied (readInto l (length out)) (P.Done 268) out to
+      read-link i b =
+          made (linkKind ∷ t ∷ d ∷ n ∷ take (12 + t + d + n) (r .text)) b (omega (arith, length-take (12 + t + d + n) (r .text), link-low l r e k t d n q i)) (link-record l r e k t d n q i)
+
+      pub read-delete : (k ≡ eventKind → ⊥) → (k ≡ linkKind → ⊥) → bytes ≡ filled (deleteKind ∷ n ∷ take (11 + n) (r .text)) → Replied (readInto l (length out)) (P.Done 268) out to
+      read-delete i j b =
+          made (deleteKind ∷ n ∷ take (11 + n) (r .text)) b (omega (arith, length-take (11 + n) (r .text), delete-low l r e k t d n q i j)) (delete-record l r e k t d n q i j)
 
 -- ---- a line written from a record
 
@@ -225,8 +282,11 @@ module _ (r : List ℕ) (room : ℕ) (n : length r ≡ 268) (m : Message) (e : m
 pub event-named : (r : List ℕ) → getD r 0 0 ≡ eventKind → messageIn r ≡ eventIn r
 event-named r e = rw e
 
-pub delete-named : (r : List ℕ) → (getD r 0 0 ≡ eventKind → ⊥) → messageIn r ≡ deleteIn r
-delete-named r n = rw (ne-eqb (getD r 0 0) eventKind n)
+pub link-named : (r : List ℕ) → getD r 0 0 ≡ linkKind → messageIn r ≡ linkIn r
+link-named r e = rw e
+
+pub delete-named : (r : List ℕ) → (getD r 0 0 ≡ eventKind → ⊥) → (getD r 0 0 ≡ linkKind → ⊥) → messageIn r ≡ deleteIn r
+delete-named r n m = rw (ne-eqb (getD r 0 0) eventKind n, ne-eqb (getD r 0 0) linkKind m)
 
 pub slots-back : (ns : List Slot) → slotsOf (flagsOf ns) (valuesOf ns) ≡ ns
 unfolding slotsOf flagsOf valuesOf
@@ -266,7 +326,7 @@ module _ (r : List ℕ) (n : length r ≡ 268) (flags : List ℕ) (values : List
         replied-as _ _ _ out to e (wrote-replied w 80 (λ ys p. event-size (slotsOf flags values) chars ys (length out) m c p))
 
 -- what the code took out of a delete's record
-module _ (r : List ℕ) (n : length r ≡ 268) (k : getD r 0 0 ≡ eventKind → ⊥) (len : ℕ) (j : getD r 1 0 ≡ len) (h : len < 256) where
+module _ (r : List ℕ) (n : length r ≡ 268) (k : getD r 0 0 ≡ eventKind → ⊥) (i : getD r 0 0 ≡ linkKind → ⊥) (len : ℕ) (j : getD r 1 0 ≡ len) (h : len < 256) where
   abbrev names : List ℕ
   names = take 11 (drop 2 r)
 
@@ -295,14 +355,14 @@ module _ (r : List ℕ) (n : length r ≡ 268) (k : getD r 0 0 ≡ eventKind →
         ap (λ (x : List ℕ). sameBytes x r) (sym e) ∙ sym s
 
     pub no-delete : same ≡ false → Replied (writeFrom r (length out)) (P.Refused badForm 0) out out
-    no-delete q = replied-refused _ out badForm 0 (from-other r (length out) n (deleteIn r) (delete-named r k) (delete-is-named ∙ q))
+    no-delete q = replied-refused _ out badForm 0 (from-other r (length out) n (deleteIn r) (delete-named r k i) (delete-is-named ∙ q))
 
     pub delete-reply : same ≡ true → (ns : List ℕ) → ns ≡ over (take (13 - 2) (drop 2 r)) (replicate 11 0) → (o : Outcome) (to : List ℕ) → Wrote (writeMessage (delete ns (take (13 + len - 13) (drop 13 r))) (length out)) o out to → Replied (writeFrom r (length out)) (replied o (13 + len)) out to
     delete-reply q ns f o to w =
         let z : 13 + len - 13 ≡ len = omega arith in
         let a : ns ≡ names = f ∙ over-whole names (replicate 11 0) names-length in
         let c : writeMessage (delete ns (take (13 + len - 13) (drop 13 r))) (length out) ≡ writeMessage (delete names chars) (length out) = rw (a, z) in
-        let e : writeMessage (delete names chars) (length out) ≡ writeFrom r (length out) = ap (λ (m : Message). writeMessage m (length out)) (sym delete-is-in) ∙ sym (from-same r (length out) n (deleteIn r) (delete-named r k) (delete-is-named ∙ q)) in
+        let e : writeMessage (delete names chars) (length out) ≡ writeFrom r (length out) = ap (λ (m : Message). writeMessage m (length out)) (sym delete-is-in) ∙ sym (from-same r (length out) n (deleteIn r) (delete-named r k i) (delete-is-named ∙ q)) in
         replied-as _ _ _ out to (c ∙ e) (wrote-replied w (13 + len) (λ ys p. delete-size names chars ys (length out) names-length (sym c ∙ p) ∙ ap (λ (x : ℕ). 13 + x) chars-length))
 
 pub replied-is : (a : Answer (List ℕ)) (r s : Reply) (from to : List ℕ) → r ≡ s → Replied a s from to → Replied a r from to

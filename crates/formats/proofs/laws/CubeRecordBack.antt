@@ -1,7 +1,7 @@
 -- What a CUBE record's bytes keep: one encoding for each record, what is written reads back to the same bytes, and the
 -- column of a refusal is one of the line's.
 use mathlib.Core.Path.{_≡_, refl, sym, ap, _∙_, subst}
-use mathlib.Core.Bool.{Bool, true, false}
+use mathlib.Core.Bool.{Bool, true, false, _&&_}
 use mathlib.Core.List.{List, [], _∷_, _++_}
 use Prim.Native.Nat.{ℕ, _+_, _≤_}
 use native.Mathlib.Omega.{arith}
@@ -17,14 +17,16 @@ use Rattle.columns.specs.Writing.{writeColumns}
 use Rattle.columns.proofs.laws.Answers.{passed, held}
 use Rattle.columns.proofs.laws.Bounds.{columnOf, pick-bound, barred-bound, read-bound, write-bound}
 use Rattle.formats.specs.Check.{checkCharacter}
-use Rattle.formats.specs.Cube.{Message, event, delete, eventKind, deleteKind, eventColumns, unless, differs, asEvent, lowestBarred, isType, readEvent, readDelete, readLine, sealedAnswer, writeMessage}
+use Rattle.formats.specs.Link.{typeOf, addressOf, textOf, formed}
+use Rattle.formats.specs.Cube.{Message, event, delete, link, eventKind, deleteKind, linkKind, eventColumns, unless, differs, asEvent, lowestBarred, linkBarred, linkParts, isType, readEvent, readDelete, readLink, readLine, sealedAnswer, putLink, writeMessage}
 use Rattle.formats.specs.Record.{packed, sameBytes, slotsIn}
 use Rattle.columns.specs.Table.{flagsOf, valuesOf}
 use Rattle.columns.proofs.laws.Table.{flags-length, values-length}
-use Rattle.formats.specs.CubeRecord.{recordSize, recordOf, eventIn, deleteIn, messageIn, readRecord, recordAnswer, readInto, lineAnswer, writeFrom}
+use Rattle.formats.specs.CubeRecord.{recordSize, recordOf, eventIn, deleteIn, linkIn, messageIn, readRecord, recordAnswer, readInto, lineAnswer, writeFrom}
 use Rattle.formats.proofs.laws.Record.{same-is, numbers-length, packed-length}
 use Rattle.formats.proofs.laws.CubeBack.{event-back, delete-back, Sized, line-accepted, event-size, delete-low-size}
-use Rattle.formats.proofs.laws.CubeRecord.{into-read, filled-length}
+use Rattle.formats.proofs.laws.LinkBack.{link-back, link-low-size}
+use Rattle.formats.proofs.laws.CubeRecord.{into-read, filled-length, parts-length}
 
 -- ---- one encoding
 
@@ -45,10 +47,12 @@ record-one r m e =
 -- ---- what is written reads back
 
 module _ (r : List ℕ) (h : length r ≡ 268) (ys : List ℕ) (room : ℕ) where
-  kind-case : (k : Bool) → writeMessage (pick k (eventIn r) (deleteIn r)) room ≡ ok ys → readLine ys ≡ ok (pick k (eventIn r) (deleteIn r))
-  kind-case true e =
+  kind-case : (k j : Bool) → writeMessage (pick k (eventIn r) (pick j (linkIn r) (deleteIn r))) room ≡ ok ys → readLine ys ≡ ok (pick k (eventIn r) (pick j (linkIn r) (deleteIn r)))
+  kind-case true j e =
       event-back (slotsIn 19 (drop 1 r) (drop 20 r)) (take 13 (drop 172 r)) ys room (numbers-length 19 (drop 1 r) (drop 20 r)) (length-take-le 13 (drop 172 r) (omega (arith, length-drop 172 r))) e
-  kind-case false e =
+  kind-case false true e =
+      link-back (take 12 (drop 4 r)) (take (getD r 1 0) (drop 16 r)) (take (getD r 2 0) (drop (16 + getD r 1 0) r)) (take (getD r 3 0) (drop (16 + getD r 1 0 + getD r 2 0) r)) ys room (length-take-le 12 (drop 4 r) (omega (arith, length-drop 4 r))) e
+  kind-case false false e =
       delete-back (take 11 (drop 2 r)) (take (getD r 1 0) (drop 13 r)) ys room (length-take-le 11 (drop 2 r) (omega (arith, length-drop 2 r))) e
 
 record Through (a : Answer Message) (room : ℕ) (ys : List ℕ) : Type 0 where
@@ -68,7 +72,7 @@ from-back r ys room e =
     let w = record-one r (t .value) (t .is) in
     let n : length (take 268 r) ≡ 268 = length-take-le 268 r (w .long) in
     let k : writeMessage (messageIn (take 268 r)) room ≡ ok ys = ap (λ (m : Message). writeMessage m room) (w .named) ∙ t .wrote in
-    let b : readLine ys ≡ ok (messageIn (take 268 r)) = kind-case (take 268 r) n ys room (eqb (getD (take 268 r) 0 0) 1) k in
+    let b : readLine ys ≡ ok (messageIn (take 268 r)) = kind-case (take 268 r) n ys room (eqb (getD (take 268 r) 0 0) 1) (eqb (getD (take 268 r) 0 0) 4) k in
     into-read ys 268 (omega arith) ∙ ap recordAnswer (b ∙ ap ok (w .named)) ∙ ap ok (sym (w .bytes))
 
 -- ---- the column of a refusal
@@ -97,19 +101,32 @@ delete-bound l =
     (long-case (ltb 80 (length l)) l _ refl
     (λ h. pick-bound 80 (differs (lowestBarred l) 0) (refusal barredByte (lowestBarred l)) (ok (delete (take 11 (drop 2 l)) (drop 13 l))) (omega (arith, barred-bound 3 13 0 l)) (omega arith)))
 
-pub line-bound : (l : List ℕ) → columnOf (readLine l) ≤ 80
+-- a test on the length of an LI line, before what holds of a line of up to 255 bytes
+low-case : {A : Type 0} (t : Bool) (l : List ℕ) (x : Answer A) → ltb 255 (length l) ≡ t → (length l ≤ 255 → columnOf x ≤ 255) → columnOf (unless t 1 0 x) ≤ 255
+low-case true l x e f = omega arith
+low-case false l x e f = f (ltb-false 255 (length l) e)
+
+link-bound : (l : List ℕ) → columnOf (readLink l) ≤ 255
+unfolding readLink linkParts
+link-bound l =
+    pick-bound 255 (ltb (length l) 20) _ _ (omega arith)
+    (low-case (ltb 255 (length l)) l _ refl
+    (λ h. pick-bound 255 (differs (linkBarred l) 0) (refusal barredByte (linkBarred l)) _ (omega (arith, barred-bound 3 14 0 l)) (pick-bound 255 (eqb (getD l 14 0) 32 && formed (typeOf l) (addressOf l) (textOf l)) _ _ (omega arith) (omega arith))))
+
+pub line-bound : (l : List ℕ) → columnOf (readLine l) ≤ 255
 unfolding readLine
 line-bound l =
-    pick-bound 80 (ltb (length l) 2) _ _ (omega arith)
-    (pick-bound 80 (isType 69 32 l) _ _ (event-bound l) (pick-bound 80 (isType 68 69 l) _ _ (delete-bound l) (omega arith)))
+    pick-bound 255 (ltb (length l) 2) _ _ (omega arith)
+    (pick-bound 255 (isType 69 32 l) _ _ (omega (arith, event-bound l))
+    (pick-bound 255 (isType 68 69 l) _ _ (omega (arith, delete-bound l)) (pick-bound 255 (isType 76 73 l) _ _ (link-bound l) (omega arith))))
 
-as-record : (a : Answer Message) → columnOf a ≤ 80 → columnOf (recordAnswer a) ≤ 80
+as-record : (a : Answer Message) → columnOf a ≤ 255 → columnOf (recordAnswer a) ≤ 255
 as-record (ok m) h = h
 as-record (refusal n k) h = h
 
-pub into-bound : (l : List ℕ) (room : ℕ) → columnOf (readInto l room) ≤ 80
+pub into-bound : (l : List ℕ) (room : ℕ) → columnOf (readInto l room) ≤ 255
 unfolding readInto
-into-bound l room = pick-bound 80 (ltb room recordSize) _ _ (omega arith) (as-record (readLine l) (line-bound l))
+into-bound l room = pick-bound 255 (ltb room recordSize) _ _ (omega arith) (as-record (readLine l) (line-bound l))
 
 as-sealed : (a : Answer (List ℕ)) → columnOf a ≤ 80 → columnOf (sealedAnswer a) ≤ 80
 as-sealed (ok ys) h = h
@@ -119,18 +136,32 @@ text-case : (t : Bool) (s : List ℕ) (x : Answer (List ℕ)) → ltb 67 (length
 text-case true s x e f = omega arith
 text-case false s x e f = f (ltb-false 67 (length s) e)
 
+put-bound : (l : List ℕ) (f : Bool) (room : ℕ) → columnOf (putLink l f room) ≤ 255
+unfolding putLink
+put-bound l f room =
+    pick-bound 255 (ltb (length l) 20) _ _ (omega arith)
+    (low-case (ltb 255 (length l)) l _ refl
+    (λ h. pick-bound 255 (ltb room (length l)) _ _ (omega arith)
+    (pick-bound 255 (differs (linkBarred l) 0) (refusal barredByte (linkBarred l)) _ (omega (arith, barred-bound 3 14 0 l)) (pick-bound 255 f (ok l) (refusal badForm 15) (omega arith) (omega arith)))))
+
 module _ (r : List ℕ) (room : ℕ) where
-  written-bound : (k : Bool) → columnOf (writeMessage (pick k (eventIn r) (deleteIn r)) room) ≤ 80
+  event-or-delete : (k : Bool) → columnOf (writeMessage (pick k (eventIn r) (deleteIn r)) room) ≤ 80
   unfolding writeMessage good widths
-  written-bound true =
+  event-or-delete true =
       let a : columnOf (writeColumns eventColumns [] 2 (slotsIn 19 (drop 1 r) (drop 20 r)) (take 13 (drop 172 r))) ≤ 80 = omega (arith, write-bound eventColumns [] 2 (slotsIn 19 (drop 1 r) (drop 20 r)) (take 13 (drop 172 r)) tt) in
       pick-bound 80 (ltb room 80) _ _ (omega arith) (as-sealed (writeColumns eventColumns [] 2 (slotsIn 19 (drop 1 r) (drop 20 r)) (take 13 (drop 172 r))) a)
-  written-bound false =
+  event-or-delete false =
       let s : List ℕ = take (getD r 1 0) (drop 13 r) in
       let l : List ℕ = take 11 (drop 2 r) ++ take (getD r 1 0) (drop 13 r) in
       text-case (ltb 67 (length (take (getD r 1 0) (drop 13 r)))) (take (getD r 1 0) (drop 13 r)) _ refl
       (λ h. pick-bound 80 (ltb room (13 + length (take (getD r 1 0) (drop 13 r)))) _ _ (omega arith)
       (pick-bound 80 (differs (barred 3 13 3 l) 0) (refusal barredByte (barred 3 13 3 l)) (ok (68 ∷ 69 ∷ l)) (omega (arith, barred-bound 3 13 2 l, length-append (take 11 (drop 2 r)) (take (getD r 1 0) (drop 13 r)), length-take 11 (drop 2 r), h)) (omega arith)))
+
+  written-bound : (k j : Bool) → columnOf (writeMessage (pick k (eventIn r) (pick j (linkIn r) (deleteIn r))) room) ≤ 255
+  unfolding writeMessage
+  written-bound true j = omega (arith, event-or-delete true)
+  written-bound false true = put-bound _ _ room
+  written-bound false false = omega (arith, event-or-delete false)
 
 -- bytes that are no record are refused at column 0
 none-case : (t u : Bool) (m : Message) (n k : ℕ) → unless t badForm 0 (pick u (ok m) (refusal badForm 0)) ≡ refusal n k → k ≡ 0
@@ -138,18 +169,18 @@ none-case true u m n k e = cc
 none-case false true m n k e = let z : _≡_ {A = ℕ} 0 1 = cc in let y : ⊥ = omega arith in absurd y
 none-case false false m n k e = cc
 
-none-bound : (r : List ℕ) (n k : ℕ) → readRecord r ≡ refusal n k → k ≤ 80
+none-bound : (r : List ℕ) (n k : ℕ) → readRecord r ≡ refusal n k → k ≤ 255
 unfolding readRecord
 none-bound r n k e = omega (arith, none-case (ltb (length r) recordSize) (sameBytes (recordOf (messageIn (take 268 r))) (take 268 r)) (messageIn (take 268 r)) n k e)
 
-pub from-bound : (r : List ℕ) (room : ℕ) → columnOf (writeFrom r room) ≤ 80
+pub from-bound : (r : List ℕ) (room : ℕ) → columnOf (writeFrom r room) ≤ 255
 unfolding writeFrom
 from-bound r room = by-record (readRecord r) refl
   where
-    by-record : (a : Answer Message) → readRecord r ≡ a → columnOf (lineAnswer a room) ≤ 80
+    by-record : (a : Answer Message) → readRecord r ≡ a → columnOf (lineAnswer a room) ≤ 255
     by-record (ok m) e =
         let w = record-one r m e in
-        subst (λ (x : Message). columnOf (writeMessage x room) ≤ 80) (w .named) (written-bound (take 268 r) room (eqb (getD (take 268 r) 0 0) 1))
+        subst (λ (x : Message). columnOf (writeMessage x room) ≤ 255) (w .named) (written-bound (take 268 r) room (eqb (getD (take 268 r) 0 0) 1) (eqb (getD (take 268 r) 0 0) 4))
     by-record (refusal n k) e = none-bound r n k e
 
 -- ---- the number of bytes written
@@ -157,6 +188,8 @@ from-bound r room = by-record (readRecord r) refl
 record-size : (m : Message) → Sized m → length (recordOf m) ≡ 268
 record-size (event ns t) s =
     filled-length (packed eventKind (flagsOf ns) (valuesOf ns) t) (omega (arith, packed-length eventKind (flagsOf ns) (valuesOf ns) t, flags-length ns, values-length ns, s .0, s .1))
+record-size (link names ty ad tx) s =
+    filled-length (linkKind ∷ length ty ∷ length ad ∷ length tx ∷ (names ++ (ty ++ (ad ++ tx)))) (omega (arith, parts-length names ty ad tx, s .0, s .1))
 record-size (delete names t) s = filled-length (deleteKind ∷ length t ∷ (names ++ t)) (omega (arith, length-append names t, s .0, s .1))
 
 -- the bytes written, where there are some
@@ -177,23 +210,25 @@ into-size l room = by-test (ltb room recordSize)
     by-test false = by-line (readLine l) refl
 
 module _ (r : List ℕ) (h : length r ≡ 268) (room : ℕ) where
-  line-size : (k : Bool) (ys : List ℕ) → writeMessage (pick k (eventIn r) (deleteIn r)) room ≡ ok ys → length ys ≤ 80
-  line-size true ys e =
+  line-size : (k j : Bool) (ys : List ℕ) → writeMessage (pick k (eventIn r) (pick j (linkIn r) (deleteIn r))) room ≡ ok ys → length ys ≤ 255
+  line-size true j ys e =
       omega (arith, event-size (slotsIn 19 (drop 1 r) (drop 20 r)) (take 13 (drop 172 r)) ys room (numbers-length 19 (drop 1 r) (drop 20 r)) (length-take-le 13 (drop 172 r) (omega (arith, length-drop 172 r))) e)
-  line-size false ys e =
+  line-size false true ys e =
+      link-low-size (take 12 (drop 4 r)) (take (getD r 1 0) (drop 16 r)) (take (getD r 2 0) (drop (16 + getD r 1 0) r)) (take (getD r 3 0) (drop (16 + getD r 1 0 + getD r 2 0) r)) ys room (length-take-le 12 (drop 4 r) (omega (arith, length-drop 4 r))) e
+  line-size false false ys e =
       omega (arith, delete-low-size (take 11 (drop 2 r)) (take (getD r 1 0) (drop 13 r)) ys room (length-take-le 11 (drop 2 r) (omega (arith, length-drop 2 r))) e)
 
-written-size : (r : List ℕ) (room : ℕ) (ys : List ℕ) → writeFrom r room ≡ ok ys → length ys ≤ 80
+written-size : (r : List ℕ) (room : ℕ) (ys : List ℕ) → writeFrom r room ≡ ok ys → length ys ≤ 255
 unfolding writeFrom
 written-size r room ys e =
     let t = through (readRecord r) room ys e in
     let w = record-one r (t .value) (t .is) in
     let n : length (take 268 r) ≡ 268 = length-take-le 268 r (w .long) in
-    line-size (take 268 r) n room (eqb (getD (take 268 r) 0 0) 1) ys (ap (λ (m : Message). writeMessage m room) (w .named) ∙ t .wrote)
+    line-size (take 268 r) n room (eqb (getD (take 268 r) 0 0) 1) (eqb (getD (take 268 r) 0 0) 4) ys (ap (λ (m : Message). writeMessage m room) (w .named) ∙ t .wrote)
 
-pub from-size : (r : List ℕ) (room : ℕ) → sizeOf (writeFrom r room) ≤ 80
+pub from-size : (r : List ℕ) (room : ℕ) → sizeOf (writeFrom r room) ≤ 255
 from-size r room = by-answer (writeFrom r room) refl
   where
-    by-answer : (a : Answer (List ℕ)) → writeFrom r room ≡ a → sizeOf a ≤ 80
+    by-answer : (a : Answer (List ℕ)) → writeFrom r room ≡ a → sizeOf a ≤ 255
     by-answer (ok ys) e = written-size r room ys e
     by-answer (refusal n k) e = omega arith

@@ -19,7 +19,7 @@ use Rattle.columns.proofs.laws.Accepted.{columns-accepted}
 use Rattle.columns.proofs.laws.Stretch.{clean-line, line-clean, barred-after}
 use Rattle.formats.specs.Cube.{unless, differs, wrongLength}
 use Rattle.formats.specs.Phase.{phaseColumns, lowestBarredByte, blankFilled, readPhase}
-use Rattle.formats.proofs.laws.CubeBack.{differs-same}
+use Rattle.formats.proofs.laws.Cube.{differs-same}
 use Rattle.formats.proofs.laws.Phase.{phase-columns}
 
 -- ---- what is written reads back

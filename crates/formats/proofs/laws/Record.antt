@@ -229,11 +229,16 @@ unfolding slotsIn
 numbers-length zero fs s = refl
 numbers-length (suc i) fs s = ap suc (numbers-length i (drop 1 fs) (drop 8 s))
 
+-- more at the end of what stands over the first places
+pub part-over : {A : Type 0} (xs ys l out : List A) (at : ℕ) → out ≡ over xs l → at ≡ length xs → at + length ys ≤ length l → placed at ys out ≡ over (xs ++ ys) l
+part-over xs ys l out at e n h =
+    let z : at ≡ 0 + length xs = omega arith in
+    ap (placed at ys) e ∙ placed-placed 0 at xs ys l z h
+
 pub set-over : {A : Type 0} (xs l out : List A) (x : A) (i : ℕ) → length xs ≡ i → i < length l → out ≡ over xs l → set out i x ≡ over (xs ++ x ∷ []) l
 set-over xs l out x i n h e =
     let k : length out ≡ length l = ap length e ∙ placed-length 0 xs l (omega arith) in
-    let z : i ≡ 0 + length xs = omega arith in
-    set-placed i out x (omega arith) ∙ ap (placed i (x ∷ [])) e ∙ placed-placed 0 i xs (x ∷ []) l z (omega arith)
+    set-placed i out x (omega arith) ∙ part-over xs (x ∷ []) l out i e (sym n) (omega arith)
 
 -- the slot that a flag and a value stand for
 pub flag-is : (f : ℕ) (u v : ℤ) → flagOf (slotOf f u) ≡ flagOf (slotOf f v)

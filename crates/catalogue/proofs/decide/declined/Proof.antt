@@ -17,6 +17,9 @@ enum-told-2 c = search needs
 enum-told-3 : tie.Need-enum-told-3
 enum-told-3 c = search needs
 
+enum-told-4 : tie.Need-enum-told-4
+enum-told-4 c = search needs
+
 returns : tie.Need-returns
 unfolding declined
 returns c = sym (ap declined (c .before .deed .given .1))
@@ -33,6 +36,10 @@ returns-4 : tie.Need-returns-4
 unfolding declined
 returns-4 c = sym (ap declined (c .enum-told3 .given .1))
 
+returns-5 : tie.Need-returns-5
+unfolding declined
+returns-5 c = sym (ap declined (c .enum-told4 .given .1))
+
 pub declined-spec : {M : Type 1} → statement M
 declined-spec =
     tie.close
@@ -41,7 +48,9 @@ declined-spec =
     enum-told
     enum-told-2
     enum-told-3
+    enum-told-4
     returns
     returns-2
     returns-3
-    returns-4)
+    returns-4
+    returns-5)

@@ -3,6 +3,7 @@ use borrow.Author.Needs.{needs}
 use native.Mathlib.Omega.{arith}
 use Rattle.catalogue.proofs.decide.look_both.Statement.{statement}
 use Rattle.catalogue.proofs.decide.look_both.Tie as tie
+use lib.ListN.{length}
 use mathlib.Core.Path.{refl, _∙_, ap}
 use mathlib.Core.Logic.{inl, inr}
 use Rattle.catalogue.specs.Line.{key}
@@ -10,6 +11,7 @@ use Rattle.catalogue.specs.Room.{contents}
 use Rattle.catalogue.specs.Entries.{Sought}
 use Rattle.catalogue.specs.Findings.{noticeKind}
 use Rattle.catalogue.proofs.laws.step.Line.{whole}
+use Rattle.catalogue.proofs.laws.room.Places.{untyped}
 use Rattle.catalogue.proofs.laws.room.Found.{notice-ok, line-key, long-enough, held-open, deletion-open, held-sought, deletion-sought}
 
 -- the pair's place among the held lines
@@ -31,7 +33,7 @@ key-at-requires : tie.Need-key-at-requires
 key-at-requires c κs =
     let d = c .before .before .before .before in
     let n = whole (d .args .line .now) (notice-ok (d .args .line .now) (d .args .notice) (d .pre .1)) .long in
-    (omega arith, omega arith)
+    (omega arith, omega arith, untyped 31 (length (d .args .line .now)))
 
 look-requires : tie.Need-look-requires
 look-requires c κs = let d = c .before .before .before .before .before in held-open (d .args .room .now) (d .pre .0) (c .before .before .held-in .ensures)

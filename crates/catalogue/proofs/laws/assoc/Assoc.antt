@@ -4,6 +4,7 @@ use mathlib.Core.Path.{_≡_, refl, sym, _∙_, ap, ap₂}
 use mathlib.Core.List.{List, [], _∷_}
 use mathlib.Core.Option.{none, some}
 use native.Mathlib.Omega.{arith}
+use lib.ListN.{length}
 use borrow.Author.Tests.{lt-ltb, le-ltb, eq-eqb, ne-eqb}
 use Rattle.catalogue.specs.Assoc.{find, put, remove, AscFrom}
 use Rattle.formats.proofs.laws.Tri.{less, same, more, tri}
@@ -86,6 +87,29 @@ module _ {E : Type 0} (key : E → ℕ) where
         | less p ↦ rw (put-less e x xs p) (h, (p, s .1))
         | same p ↦ rw (put-same e x xs p) (h, asc-weaken xs (omega arith) (s .1))
         | more p ↦ rw (put-more e x xs p) (s .0, put-asc e xs (suc (key x)) p (s .1))
+      ]
+
+  -- at most one entry more; none where there is one with the key
+  pub put-length : (e : E) (xs : List E) → length (put key e xs) ≤ suc (length xs)
+  unfolding put
+  put-length e [] = omega arith
+  put-length e (x ∷ xs) =
+      elim (tri (key e) (key x)) [
+        | less p ↦ rw (put-less e x xs p) (omega arith)
+        | same p ↦ rw (put-same e x xs p) (omega arith)
+        | more p ↦ rw (put-more e x xs p) (omega (arith, put-length e xs))
+      ]
+
+  pub put-length-found : (e : E) (xs : List E) (b : ℕ) (y : E) → AscFrom key b xs → find key (key e) xs ≡ some y → length (put key e xs) ≡ length xs
+  unfolding find
+  put-length-found e [] b y s f = let z : _≡_ {A = ℕ} 0 1 = cc in absurd (omega arith)
+  put-length-found e (x ∷ xs) b y s f =
+      elim (tri (key e) (key x)) [
+        | less p ↦ let z : _≡_ {A = ℕ} 0 1 = cc (find-below (x ∷ xs) (key x) (key e) (omega arith, s .1) p) in absurd (omega arith)
+        | same p ↦ rw (put-same e x xs p) refl
+        | more p ↦
+            let n : key x ≡ key e → ⊥ = λ (q : key x ≡ key e). omega arith in
+            rw (put-more e x xs p) (ap suc (put-length-found e xs (suc (key x)) y (s .1) (sym (find-there x xs (key e) n) ∙ f)))
       ]
 
   pub remove-here : (x : E) (xs : List E) (k : ℕ) → key x ≡ k → remove key k (x ∷ xs) ≡ remove key k xs

@@ -1,14 +1,15 @@
 -- The keys of a list of entries, and what is found by them.
-use Prim.Native.Nat.{ℕ, suc, _≤_}
+use Prim.Native.Nat.{ℕ, suc, _≤_, _<_}
 use mathlib.Core.Path.{_≡_, sym, _∙_, ap}
 use mathlib.Core.Logic.{inl, inr}
-use mathlib.Core.List.{List, [], _∷_, map, List·Memᴰ, List·Memᴰ·head, List·Memᴰ·tail, List·Memᴰ·not-nil, List·Memᴰ·cases-cons}
-use mathlib.Core.Option.{some}
+use mathlib.Core.List.{List, [], _∷_, map, List·Memᴰ, List·Memᴰ·head, List·Memᴰ·tail, List·Memᴰ·not-nil, List·Memᴰ·cases-cons, Memᴰ·cast}
+use mathlib.Core.Option.{none, some}
 use native.Mathlib.Omega.{arith}
+use lib.ListN.{length, length-map}
 use Rattle.catalogue.specs.Assoc.{find, AscFrom}
 use Rattle.catalogue.proofs.laws.assoc.Tri.{eq, ne, eq?}
 use Rattle.catalogue.proofs.laws.assoc.Assoc.{find-here, find-there}
-use Rattle.catalogue.proofs.laws.assoc.Distinct.{Distinct}
+use Rattle.catalogue.proofs.laws.assoc.Distinct.{Distinct, pigeon}
 
 module _ {E : Type 0} (key : E → ℕ) where
   -- the keys of an ascending list are distinct
@@ -54,3 +55,15 @@ module _ {E : Type 0} (key : E → ℕ) where
             let r = found-self ys (suc (key y)) x (s .1) t in
             (omega (arith, r .0), find-there key y ys (key x) (λ (e : key y ≡ key x). omega (arith, r .0)) ∙ r .1)
       ]
+
+  -- fewer entries than a list has that has all their keys and one more
+  pub fewer : (xs : List E) (b : ℕ) → AscFrom key b xs → (ks : List ℕ) → ((z : ℕ) (e : E) → find key z xs ≡ some e → List·Memᴰ z ks)
+      → (k : ℕ) → List·Memᴰ k ks → find key k xs ≡ none → length xs < length ks
+  fewer xs b s ks f k m n =
+      let within : (z : ℕ) → List·Memᴰ z (k ∷ map key xs) → List·Memᴰ z ks =
+      λ (z : ℕ) (a : List·Memᴰ z (k ∷ map key xs)). elim (List·Memᴰ·cases-cons a) [
+        | inl e ↦ Memᴰ·cast e m
+        | inr t ↦ let r = found xs z t in f z (r .0) (r .1)
+      ] in
+      let absent : List·Memᴰ k (map key xs) → ⊥ = λ (a : List·Memᴰ k (map key xs)). let r = found xs k a in let u : _≡_ {A = ℕ} 0 1 = cc (r .1) in omega arith in
+      omega (arith, simp length-map at (pigeon (k ∷ map key xs) ks (absent, keys-distinct xs b s) within))

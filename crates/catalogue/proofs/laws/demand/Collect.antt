@@ -6,7 +6,7 @@ use mathlib.Core.List.{List, [], _∷_, List·Memᴰ·not-nil, List·Memᴰ·cas
 use mathlib.Core.Option.{Option, none, some}
 use native.Mathlib.Omega.{arith}
 use Rattle.catalogue.specs.Assoc.{find, AscFrom}
-use Rattle.catalogue.specs.Line.{Kind, key}
+use Rattle.catalogue.specs.Line.{Kind, keyBy}
 use Rattle.catalogue.specs.FromSet.{Of}
 use Rattle.catalogue.specs.Lists.{Occurs}
 use Rattle.catalogue.specs.Last.{keys, collectAt, collect}
@@ -62,22 +62,23 @@ module _ (key : List ℕ → ℕ) (f : ℕ → Option (List ℕ)) (keyed : (k : 
       go none e = collect-miss ks j e ∙ sym e
       go (some x) e = collect-find ks 0 j s (m x e)
 
-pub keys-asc : (ls : List (List ℕ)) → AscFrom (λ (k : ℕ). k) 0 (keys ls)
+pub keys-asc : (t : Kind) (ls : List (List ℕ)) → AscFrom (λ (k : ℕ). k) 0 (keys t ls)
 unfolding keys
-keys-asc [] = tt
-keys-asc (l ∷ ls) = put-asc (λ (k : ℕ). k) (key l) (keys ls) 0 zero-le (keys-asc ls)
+keys-asc t [] = tt
+keys-asc t (l ∷ ls) = put-asc (λ (k : ℕ). k) (keyBy t l) (keys t ls) 0 zero-le (keys-asc t ls)
 
-keys-listed : (ls : List (List ℕ)) (x : List ℕ) → Occurs ls x → find (λ (k : ℕ). k) (key x) (keys ls) ≡ some (key x)
-unfolding keys
-keys-listed [] x m = absurd (List·Memᴰ·not-nil m)
-keys-listed (l ∷ ls) x m =
-    elim (List·Memᴰ·cases-cons m) [
-      | inl e ↦ find-put-same (λ (k : ℕ). k) (key l) (keys ls) (key x) (ap key (sym e)) ∙ ap some (ap key (sym e))
-      | inr t ↦ elim (eq? (key l) (key x)) [
-        | eq q ↦ find-put-same (λ (k : ℕ). k) (key l) (keys ls) (key x) q ∙ ap some q
-        | ne q ↦ find-put-other (λ (k : ℕ). k) (key l) (keys ls) (key x) q ∙ keys-listed ls x t
+module _ (t : Kind) where
+  keys-listed : (ls : List (List ℕ)) (x : List ℕ) → Occurs ls x → find (λ (k : ℕ). k) (keyBy t x) (keys t ls) ≡ some (keyBy t x)
+  unfolding keys
+  keys-listed [] x m = absurd (List·Memᴰ·not-nil m)
+  keys-listed (l ∷ ls) x m =
+      elim (List·Memᴰ·cases-cons m) [
+        | inl e ↦ find-put-same (λ (k : ℕ). k) (keyBy t l) (keys t ls) (keyBy t x) (ap (keyBy t) (sym e)) ∙ ap some (ap (keyBy t) (sym e))
+        | inr n ↦ elim (eq? (keyBy t l) (keyBy t x)) [
+          | eq q ↦ find-put-same (λ (k : ℕ). k) (keyBy t l) (keys t ls) (keyBy t x) q ∙ ap some q
+          | ne q ↦ find-put-other (λ (k : ℕ). k) (keyBy t l) (keys t ls) (keyBy t x) q ∙ keys-listed ls x n
+        ]
       ]
-    ]
 
-pub of-listed : (ls : List (List ℕ)) {t : Kind} {k : ℕ} {x : List ℕ} → Of (Occurs ls) t k x → find (λ (j : ℕ). j) k (keys ls) ≡ some k
-of-listed ls {x = x} o = subst (λ (j : ℕ). find (λ (i : ℕ). i) j (keys ls) ≡ some j) (o .is-key) (keys-listed ls x (o .inside))
+  pub of-listed : (ls : List (List ℕ)) {k : ℕ} {x : List ℕ} → Of (Occurs ls) t k x → find (λ (j : ℕ). j) k (keys t ls) ≡ some k
+  of-listed ls {x = x} o = subst (λ (j : ℕ). find (λ (i : ℕ). i) j (keys t ls) ≡ some j) (o .is-key) (keys-listed ls x (o .inside))

@@ -2,7 +2,7 @@
 use Prim.Native.Nat.{ℕ}
 use mathlib.Core.Path.{_≡_, refl, sym, _∙_, ap}
 use mathlib.Core.List.{List, [], _∷_, _++_}
-use Rattle.catalogue.specs.Line.{event, delete}
+use Rattle.catalogue.specs.Line.{event, delete, link}
 use Rattle.catalogue.specs.Catalogue.{Catalogue, empty}
 use Rattle.catalogue.specs.Taking.{step, run}
 use Rattle.catalogue.specs.Lists.{Bounded}
@@ -42,12 +42,13 @@ unfolding feed
 feed-idle room out [] = refl
 feed-idle room out (l ∷ ls) = ap (λ (r : List ℕ). feed r ls) (room-idle room out l) ∙ feed-idle room out ls
 
--- ---- lists of which nothing is asked but room and versions: E lines may share source, identifier and version and yet differ
+-- ---- lists of which nothing is asked but room and versions: E and LI lines may share all but their text and yet differ
 
 -- the last received counts
 pub feed-last : (ls : List (List ℕ)) → Bounded ls → (z : List ℕ) → feed (zeroed z) ls ≡ encode (lastCatalogue ls) ++ z
 feed-last ls s z = feed-zeroed ls z ∙ ap (λ (c : Catalogue). encode c ++ z) (run-last ls s)
 
 pub feed-agree : (ls ms : List (List ℕ)) → Bounded ls → Bounded ms → ((k : ℕ) → lastHighest event k ls ≡ lastHighest event k ms)
-    → ((k : ℕ) → deletionFor (lastHighest delete k ls) ≡ deletionFor (lastHighest delete k ms)) → (z : List ℕ) → feed (zeroed z) ls ≡ feed (zeroed z) ms
-feed-agree ls ms s t f g z = feed-zeroed ls z ∙ ap (λ (c : Catalogue). encode c ++ z) (last-agree ls ms f g s t) ∙ sym (feed-zeroed ms z)
+    → ((k : ℕ) → deletionFor (lastHighest delete k ls) ≡ deletionFor (lastHighest delete k ms)) → ((k : ℕ) → lastHighest link k ls ≡ lastHighest link k ms)
+    → (z : List ℕ) → feed (zeroed z) ls ≡ feed (zeroed z) ms
+feed-agree ls ms s t f g h z = feed-zeroed ls z ∙ ap (λ (c : Catalogue). encode c ++ z) (last-agree ls ms f g h s t) ∙ sym (feed-zeroed ms z)

@@ -10,15 +10,17 @@ use Rattle.columns.specs.Answer.{pick}
 use Rattle.formats.specs.Record.{sameBytes}
 use Rattle.formats.proofs.laws.Record.{same-is}
 use Rattle.catalogue.specs.declared.decide.Deed.{Deed}
-use Rattle.catalogue.specs.declared.decide.Deed.the-variants.{Leave, Hold, Note, Wipe}
+use Rattle.catalogue.specs.declared.decide.Deed.the-variants.{Leave, Hold, Note, Wipe, Link}
+use Rattle.catalogue.specs.declared.decide.Notice.the-variants.{Event, Delete}
 use Rattle.catalogue.specs.Answers.{replaced, repeated, outdated}
-use Rattle.catalogue.specs.Line.{event, delete, Acceptable, version, key, deletion, deletionVersion}
-use Rattle.catalogue.specs.Taking.{covered, overHeld, overDeleted, decide}
-use Rattle.catalogue.specs.Last.{deletionFor, heldFor}
+use Rattle.catalogue.specs.Line.{event, delete, link, kind, Acceptable, version, key, deletion, deletionVersion, linkEntry, linkVersion}
+use Rattle.catalogue.specs.Taking.{covered, overHeld, overDeleted, decide, overLink}
+use Rattle.catalogue.specs.Last.{deletionFor, heldFor, linkFor}
 use Rattle.catalogue.proofs.laws.assoc.Tri.{le, gt, le?}
 use Rattle.catalogue.proofs.laws.assoc.Tests.{pick-by}
 use Rattle.catalogue.proofs.laws.step.Line.{whole, deletion-version, deletion-eq}
-use Rattle.catalogue.proofs.laws.step.Done.{heldAfter, deletionAfter}
+use Rattle.catalogue.proofs.laws.step.Link.{link-whole, entry-version}
+use Rattle.catalogue.proofs.laws.step.Done.{heldAfter, deletionAfter, linkAfter}
 use Rattle.catalogue.proofs.laws.demand.Highest.{later-within, later-above, joined}
 
 -- ---- what is held
@@ -87,37 +89,37 @@ Below (some d) v = version d < v
 module _ (l : List ℕ) where
   -- ---- an E line
 
-  over-held-after : (d h : Option (List ℕ)) → (heldAfter (overHeld l h) l h ≡ joined h l) × (deletionAfter (overHeld l h) l d ≡ d)
+  over-held-after : (d h : Option (List ℕ)) → (heldAfter (overHeld l h) l h ≡ joined event h l) × (deletionAfter (overHeld l h) l d ≡ d)
   unfolding overHeld
   over-held-after d none = (refl, refl)
   over-held-after d (some x) =
-      pick-by (λ (e : Deed). (heldAfter e l (some x) ≡ joined (some x) l) × (deletionAfter e l d ≡ d)) (ltb (version l) (version x)) (Leave outdated) (pick (sameBytes l x) (Leave repeated) (Hold replaced))
-      (λ t. (sym (later-above x l (ltb-true (version l) (version x) t)), refl))
+      pick-by (λ (e : Deed). (heldAfter e l (some x) ≡ joined event (some x) l) × (deletionAfter e l d ≡ d)) (ltb (version l) (version x)) (Leave outdated) (pick (sameBytes l x) (Leave repeated) (Hold replaced))
+      (λ t. (sym (later-above event x l (ltb-true (version l) (version x) t)), refl))
       (λ t.
       let v : version x ≤ version l = ltb-false (version l) (version x) t in
-      pick-by (λ (e : Deed). (heldAfter e l (some x) ≡ joined (some x) l) × (deletionAfter e l d ≡ d)) (sameBytes l x) (Leave repeated) (Hold replaced)
-      (λ s. (sym (later-within x l v ∙ ap some (same-is l x s)), refl)) (λ s. (sym (later-within x l v), refl)))
+      pick-by (λ (e : Deed). (heldAfter e l (some x) ≡ joined event (some x) l) × (deletionAfter e l d ≡ d)) (sameBytes l x) (Leave repeated) (Hold replaced)
+      (λ s. (sym (later-within event x l v ∙ ap some (same-is l x s)), refl)) (λ s. (sym (later-within event x l v), refl)))
 
   -- where the line is above the deletes
-  joined-above : (e d : Option (List ℕ)) → Below d (version l) → joined (heldFor e d) l ≡ heldFor (joined e l) d
+  joined-above : (e d : Option (List ℕ)) → Below d (version l) → joined event (heldFor e d) l ≡ heldFor (joined event e l) d
   joined-above e none h = simp held-none
   joined-above none (some y) h = simp (held-nothing, held-above l y h)
   joined-above (some x) (some y) h =
       elim (le? (version x) (version y)) [
-        | le p ↦ let q : version x ≤ version l = omega arith in simp (held-within x y p, later-within x l q, held-above l y h)
+        | le p ↦ let q : version x ≤ version l = omega arith in simp (held-within x y p, later-within event x l q, held-above l y h)
         | gt p ↦ elim (le? (version x) (version l)) [
-          | le q ↦ simp (held-above x y p, later-within x l q, held-above l y h)
-          | gt q ↦ simp (held-above x y p, later-above x l q)
+          | le q ↦ simp (held-above x y p, later-within event x l q, held-above l y h)
+          | gt q ↦ simp (held-above x y p, later-above event x l q)
         ]
       ]
 
   -- and where it is not
-  joined-within : (e : Option (List ℕ)) (y : List ℕ) → version l ≤ version y → heldFor e (some y) ≡ heldFor (joined e l) (some y)
+  joined-within : (e : Option (List ℕ)) (y : List ℕ) → version l ≤ version y → heldFor e (some y) ≡ heldFor (joined event e l) (some y)
   joined-within none y h = simp (held-nothing, held-within l y h)
   joined-within (some x) y h =
       elim (le? (version x) (version l)) [
-        | le p ↦ let q : version x ≤ version y = omega arith in simp (later-within x l p, held-within x y q, held-within l y h)
-        | gt p ↦ simp (later-above x l p)
+        | le p ↦ let q : version x ≤ version y = omega arith in simp (later-within event x l p, held-within x y q, held-within l y h)
+        | gt p ↦ simp (later-above event x l p)
       ]
 
   -- ---- a DE line
@@ -139,23 +141,23 @@ module _ (l : List ℕ) where
         | gt p ↦ simp (held-above x y p)
       ]
 
-  joined-new : (d : Option (List ℕ)) → Below d (version l) → joined d l ≡ some l
+  joined-new : (d : Option (List ℕ)) → Below d (version l) → joined delete d l ≡ some l
   joined-new none h = refl
-  joined-new (some y) h = later-within y l (omega arith)
+  joined-new (some y) h = later-within delete y l (omega arith)
 
-  joined-held : (e : Option (List ℕ)) (y : List ℕ) → version l ≤ version y → heldFor e (some y) ≡ heldFor e (joined (some y) l)
+  joined-held : (e : Option (List ℕ)) (y : List ℕ) → version l ≤ version y → heldFor e (some y) ≡ heldFor e (joined delete (some y) l)
   joined-held e y h =
       elim (le? (version y) (version l)) [
-        | le p ↦ let v : version y ≡ version l = omega arith in held-version e y l v ∙ simp (later-within y l p)
-        | gt p ↦ simp (later-above y l p)
+        | le p ↦ let v : version y ≡ version l = omega arith in held-version e y l v ∙ simp (later-within delete y l p)
+        | gt p ↦ simp (later-above delete y l p)
       ]
 
-  joined-deletion : Acceptable l → (y : List ℕ) → Own (key l) (some y) → version l ≤ version y → deletionFor (some y) ≡ deletionFor (joined (some y) l)
+  joined-deletion : Acceptable l → (y : List ℕ) → Own (key l) (some y) → version l ≤ version y → deletionFor (some y) ≡ deletionFor (joined delete (some y) l)
   unfolding deletionFor
   joined-deletion a y o h =
       elim (le? (version y) (version l)) [
-        | le p ↦ let v : version y ≡ version l = omega arith in ap some (ap (deletion y) v ∙ deletion-eq y l (o .0) a (version l) (o .1)) ∙ sym (ap deletionFor (later-within y l p))
-        | gt p ↦ sym (ap deletionFor (later-above y l p))
+        | le p ↦ let v : version y ≡ version l = omega arith in ap some (ap (deletion y) v ∙ deletion-eq y l (o .0) a (version l) (o .1)) ∙ sym (ap deletionFor (later-within delete y l p))
+        | gt p ↦ sym (ap deletionFor (later-above delete y l p))
       ]
 
 -- ---- the pair after the line
@@ -165,23 +167,23 @@ abbrev pub PairAfter : List ℕ → Deed → Option (List ℕ) → Option (List 
 PairAfter l deed x y e d = (heldAfter deed l (heldFor x y) ≡ heldFor e d) × (deletionAfter deed l (deletionFor y) ≡ deletionFor d)
 
 module _ (l : List ℕ) (e : Option (List ℕ)) where
-  pub event-pair : (d : Option (List ℕ)) → Own (key l) d → PairAfter l (decide event l (deletionFor d) (heldFor e d)) e d (joined e l) d
+  pub event-pair : (d : Option (List ℕ)) → Own (key l) d → PairAfter l (decide Event l (deletionFor d) (heldFor e d)) e d (joined event e l) d
   unfolding decide covered deletionFor
   event-pair none o = let a = over-held-after l none (heldFor e none) in (a .0 ∙ joined-above l e none tt, a .1)
   event-pair (some y) o =
       let v = own-version (key l) y o in
-      pick-by (λ (t : Deed). PairAfter l t e (some y) (joined e l) (some y)) (leb (version l) (deletionVersion (deletion y (version y)))) (Leave outdated) (overHeld l (heldFor e (some y)))
+      pick-by (λ (t : Deed). PairAfter l t e (some y) (joined event e l) (some y)) (leb (version l) (deletionVersion (deletion y (version y)))) (Leave outdated) (overHeld l (heldFor e (some y)))
       (λ t. (joined-within l e y (omega (arith, v, leb-true (version l) (deletionVersion (deletion y (version y))) t)), refl))
       (λ t.
       let a = over-held-after l (some (deletion y (version y))) (heldFor e (some y)) in
       (a .0 ∙ joined-above l e (some y) (omega (arith, v, leb-false (version l) (deletionVersion (deletion y (version y))) t)), a .1))
 
-  pub delete-pair : Acceptable l → (d : Option (List ℕ)) → Own (key l) d → PairAfter l (decide delete l (deletionFor d) (heldFor e d)) e d e (joined d l)
+  pub delete-pair : Acceptable l → (d : Option (List ℕ)) → Own (key l) d → PairAfter l (decide Delete l (deletionFor d) (heldFor e d)) e d e (joined delete d l)
   unfolding decide covered deletionFor
   delete-pair a none o = let b = over-deleted-after l none (heldFor e none) in (b .0 ∙ held-twice l e none tt, b .1)
   delete-pair a (some y) o =
       let v = own-version (key l) y o in
-      pick-by (λ (t : Deed). PairAfter l t e (some y) e (joined (some y) l)) (leb (version l) (deletionVersion (deletion y (version y)))) (Leave outdated) (overDeleted (version l) (heldFor e (some y)))
+      pick-by (λ (t : Deed). PairAfter l t e (some y) e (joined delete (some y) l)) (leb (version l) (deletionVersion (deletion y (version y)))) (Leave outdated) (overDeleted (version l) (heldFor e (some y)))
       (λ t.
       let w : version l ≤ version y = omega (arith, v, leb-true (version l) (deletionVersion (deletion y (version y))) t) in
       (joined-held l e y w, joined-deletion l a y o w))
@@ -189,3 +191,30 @@ module _ (l : List ℕ) (e : Option (List ℕ)) where
       let w : version y < version l = omega (arith, v, leb-false (version l) (deletionVersion (deletion y (version y))) t) in
       let b = over-deleted-after l (some (deletion y (version y))) (heldFor e (some y)) in
       (b .0 ∙ held-twice l e (some y) w ∙ sym (ap (heldFor e) (joined-new l (some y) w)), b .1 ∙ sym (ap deletionFor (joined-new l (some y) w))))
+
+-- ---- an LI line
+
+-- the chosen link, if there is one, is an LI line
+abbrev pub OwnLink : Option (List ℕ) → Type 0
+OwnLink none = Unit {0}
+OwnLink (some x) = kind x ≡ link
+
+pub link-chosen : (o : Option (List ℕ)) (e : List ℕ) → linkFor o ≡ some e → (x : List ℕ) × (o ≡ some x) × (e ≡ linkEntry x)
+unfolding linkFor
+link-chosen none e q = let z : _≡_ {A = ℕ} 0 1 = cc in absurd (omega arith)
+link-chosen (some x) e q = (x, refl, cc)
+
+-- its triple after the line, where the chosen link says what stands there before
+pub link-after : (l : List ℕ) → kind l ≡ link → (o : Option (List ℕ)) → OwnLink o → linkAfter (overLink (linkEntry l) (linkFor o)) l (linkFor o) ≡ linkFor (joined link o l)
+unfolding overLink linkFor
+link-after l p none w = refl
+link-after l p (some x) w =
+    let a = entry-version l (link-whole l p) in
+    let b = entry-version x (link-whole x w) in
+    pick-by (λ (e : Deed). linkAfter e l (some (linkEntry x)) ≡ linkFor (joined link (some x) l)) (ltb (linkVersion (linkEntry l)) (linkVersion (linkEntry x))) (Leave outdated)
+    (pick (sameBytes (linkEntry l) (linkEntry x)) (Leave repeated) (Link replaced))
+    (λ t. sym (ap linkFor (later-above link x l (omega (arith, ltb-true (linkVersion (linkEntry l)) (linkVersion (linkEntry x)) t)))))
+    (λ t.
+    let e : joined link (some x) l ≡ some l = later-within link x l (omega (arith, ltb-false (linkVersion (linkEntry l)) (linkVersion (linkEntry x)) t)) in
+    pick-by (λ (e : Deed). linkAfter e l (some (linkEntry x)) ≡ linkFor (joined link (some x) l)) (sameBytes (linkEntry l) (linkEntry x)) (Leave repeated) (Link replaced)
+    (λ s. ap some (sym (same-is (linkEntry l) (linkEntry x) s)) ∙ sym (ap linkFor e)) (λ s. sym (ap linkFor e)))

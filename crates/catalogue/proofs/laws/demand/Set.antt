@@ -8,15 +8,16 @@ use native.Mathlib.Omega.{arith}
 use lib.Dec.{ltb}
 use borrow.Author.Tests.{ltb-true, ltb-false}
 use Rattle.catalogue.specs.Assoc.{find}
-use Rattle.catalogue.specs.Line.{Kind, event, delete, blank, refused, kind, Acceptable, pair, version, key, deletion, deletionKey}
+use Rattle.catalogue.specs.Line.{Kind, event, delete, blank, link, refused, kind, Acceptable, pair, version, key, deletion, deletionKey, triple, tripleKey, wideVersion, linkEntry, linkKey}
 use Rattle.catalogue.specs.Catalogue.{Catalogue, empty}
 use Rattle.catalogue.specs.Taking.{run}
-use Rattle.catalogue.specs.FromSet.{Of, DeletionIs, HeldIs, IsCatalogueOf}
+use Rattle.catalogue.specs.FromSet.{Of, DeletionIs, HeldIs, LinkIs, IsCatalogueOf}
 use Rattle.catalogue.specs.Lists.{Occurs, SameLines, Settled}
-use Rattle.catalogue.specs.Last.{lastHighest, deletionFor, heldFor, lastCatalogue}
-use Rattle.catalogue.specs.Demand.{Kept}
+use Rattle.catalogue.specs.Last.{lastHighest, deletionFor, heldFor, linkFor, lastCatalogue}
+use Rattle.catalogue.specs.Demand.{PairKept, KeptBy, Kept}
 use Rattle.catalogue.proofs.laws.assoc.Tests.{pick-by}
 use Rattle.catalogue.proofs.laws.step.Line.{event-ok, delete-ok, blank-ok, key-inj, deletion-eq}
+use Rattle.catalogue.proofs.laws.step.Link.{link-ok, triple-inj}
 use Rattle.catalogue.proofs.laws.demand.Highest.{HighestIs, highest-is}
 use Rattle.catalogue.proofs.laws.demand.Follows.{found-ext, last-follows, run-last}
 
@@ -37,15 +38,22 @@ module _ (ls : List (List ℕ)) (k : ℕ) where
       (λ t. (h .0, h .1, λ (x : List ℕ) (o : Of (Occurs ls) delete k x). omega (arith, g .1 x o, ltb-true (version d) (version e) t)))
       (λ t. λ (x : List ℕ) (o : Of (Occurs ls) event k x). (d, g .0, omega (arith, h .1 x o, ltb-false (version d) (version e) t)))
 
+  link-from : (o : Option (List ℕ)) → HighestIs ls link k o → LinkIs (Occurs ls) k (linkFor o)
+  unfolding linkFor
+  link-from none h = h
+  link-from (some l) h = (l, h .0, refl, h .1)
+
 pub last-is : (ls : List (List ℕ)) → IsCatalogueOf (Occurs ls) (lastCatalogue ls)
 last-is ls =
     let F = last-follows ls in
     record {
       held-ascends = F .held-ascends;
       deletion-ascends = F .deletion-ascends;
+      link-ascends = F .link-ascends;
       held-is =
           λ (k : ℕ). rw (F .held-found k) (held-from ls k (lastHighest event k ls) (lastHighest delete k ls) (highest-is ls event k) (highest-is ls delete k));
       deletion-is = λ (k : ℕ). rw (F .deletion-found k) (deletion-from ls k (lastHighest delete k ls) (highest-is ls delete k));
+      link-is = λ (k : ℕ). rw (F .link-found k) (link-from ls k (lastHighest link k ls) (highest-is ls link k));
     }
 
 -- ---- a set has one catalogue
@@ -72,11 +80,25 @@ module _ (S : List ℕ → Type 0) where
         (key-inj d e (event-ok d (g .0 .is-kind)) (event-ok e (h .0 .is-kind)) (g .0 .is-key ∙ sym (h .0 .is-key)))
         (omega (arith, g .1 e (h .0), h .1 d (g .0))))
 
-    pub unique : (c d : Catalogue) → IsCatalogueOf S c → IsCatalogueOf S d → c ≡ d
-    unique c d I J =
-        found-ext c d (I .held-ascends) (J .held-ascends) (I .deletion-ascends) (J .deletion-ascends)
-        (λ (k : ℕ). held-one k (find key k (c .held)) (find key k (d .held)) (I .held-is k) (J .held-is k))
-        (λ (k : ℕ). deletion-one k (find deletionKey k (c .deletions)) (find deletionKey k (d .deletions)) (I .deletion-is k) (J .deletion-is k))
+    module _ (one-link : (x y : List ℕ) → S x → S y → kind x ≡ link → kind y ≡ link → triple x ≡ triple y → wideVersion x ≡ wideVersion y → x ≡ y) where
+      link-one : (k : ℕ) (o p : Option (List ℕ)) → LinkIs S k o → LinkIs S k p → o ≡ p
+      link-one k none none g h = refl
+      link-one k none (some e) g h = absurd (g (h .0) (h .1))
+      link-one k (some d) none g h = absurd (h (g .0) (g .1))
+      link-one k (some d) (some e) g h =
+          let x : List ℕ = g .0 in
+          let y : List ℕ = h .0 in
+          let q : x ≡ y =
+          one-link x y (g .1 .inside) (h .1 .inside) (g .1 .is-kind) (h .1 .is-kind) (triple-inj x y (g .1 .is-kind) (h .1 .is-kind) (g .1 .is-key ∙ sym (h .1 .is-key)))
+          (omega (arith, g .3 y (h .1), h .3 x (g .1))) in
+          ap some (g .2 ∙ ap linkEntry q ∙ sym (h .2))
+
+      pub unique : (c d : Catalogue) → IsCatalogueOf S c → IsCatalogueOf S d → c ≡ d
+      unique c d I J =
+          found-ext c d (I .held-ascends) (J .held-ascends) (I .deletion-ascends) (J .deletion-ascends) (I .link-ascends) (J .link-ascends)
+          (λ (k : ℕ). held-one k (find key k (c .held)) (find key k (d .held)) (I .held-is k) (J .held-is k))
+          (λ (k : ℕ). deletion-one k (find deletionKey k (c .deletions)) (find deletionKey k (d .deletions)) (I .deletion-is k) (J .deletion-is k))
+          (λ (k : ℕ). link-one k (find linkKey k (c .links)) (find linkKey k (d .links)) (I .link-is k) (J .link-is k))
 
 -- ---- only the acceptable lines count
 
@@ -93,6 +115,13 @@ module _ (S U : List ℕ → Type 0) (same : (x : List ℕ) → Acceptable x →
   from-event : {k : ℕ} (x : List ℕ) → Of U event k x → Of S event k x
   from-event x o = carried U S (λ (x : List ℕ) (a : Acceptable x). same x a .1) (event-ok x (o .is-kind)) o
 
+  from-link : {k : ℕ} (x : List ℕ) → Of U link k x → Of S link k x
+  from-link x o = carried U S (λ (x : List ℕ) (a : Acceptable x). same x a .1) (link-ok x (o .is-kind)) o
+
+  link-same : (k : ℕ) (o : Option (List ℕ)) → LinkIs S k o → LinkIs U k o
+  link-same k none g = λ (x : List ℕ) (o : Of U link k x). g x (from-link x o)
+  link-same k (some e) g = (g .0, to (link-ok (g .0) (g .1 .is-kind)) (g .1), g .2, λ (x : List ℕ) (o : Of U link k x). g .3 x (from-link x o))
+
   deletion-same : (k : ℕ) (o : Option (List ℕ)) → DeletionIs S k o → DeletionIs U k o
   deletion-same k none g = λ (x : List ℕ) (o : Of U delete k x). g x (from-delete x o)
   deletion-same k (some d) g = (g .0, to (delete-ok (g .0) (g .1 .is-kind)) (g .1), g .2, λ (x : List ℕ) (o : Of U delete k x). g .3 x (from-delete x o))
@@ -106,8 +135,10 @@ module _ (S U : List ℕ → Type 0) (same : (x : List ℕ) → Acceptable x →
   same-set c I = record {
     held-ascends = I .held-ascends;
     deletion-ascends = I .deletion-ascends;
+    link-ascends = I .link-ascends;
     held-is = λ (k : ℕ). held-same k (find key k (c .held)) (I .held-is k);
     deletion-is = λ (k : ℕ). deletion-same k (find deletionKey k (c .deletions)) (I .deletion-is k);
+    link-is = λ (k : ℕ). link-same k (find linkKey k (c .links)) (I .link-is k);
   }
 
 -- and the premises speak of no others
@@ -118,36 +149,48 @@ settled-same ls ms e s = record {
     pairs = s .bounded .pairs;
     few = s .bounded .few;
     named-there = λ (x : List ℕ) (m : Occurs ms x) (a : Acceptable x). s .bounded .named-there x (e x a .1 m) a;
+    triples = s .bounded .triples;
+    few-triples = s .bounded .few-triples;
+    triple-there = λ (x : List ℕ) (m : Occurs ms x) (p : kind x ≡ link). s .bounded .triple-there x (e x (link-ok x p) .1 m) p;
   };
   no-conflict =
       λ (x y : List ℕ) (m : Occurs ms x) (n : Occurs ms y) (p : kind x ≡ event) (q : kind y ≡ event).
       s .no-conflict x y (e x (event-ok x p) .1 m) (e y (event-ok y q) .1 n) p q;
+  no-link-conflict =
+      λ (x y : List ℕ) (m : Occurs ms x) (n : Occurs ms y) (p : kind x ≡ link) (q : kind y ≡ link).
+      s .no-link-conflict x y (e x (link-ok x p) .1 m) (e y (link-ok y q) .1 n) p q;
 }
 
 -- ---- the laws
 
--- a pair that an acceptable line names has an entry
+-- a pair or triple that an acceptable line names has an entry
 pub kept : (S : List ℕ → Type 0) (c : Catalogue) → IsCatalogueOf S c → ((x : List ℕ) → S x → kind x ≡ blank → ⊥) → (l : List ℕ) → S l → Acceptable l → Kept c l
-kept S c I b l m a p q = by-kind (kind l) refl
+kept S c I b l m a = by-kind (kind l) refl
   where
-    no-delete : DeletionIs S (key l) none
-    no-delete = subst (DeletionIs S (key l)) q (I .deletion-is (key l))
+    no-delete : find deletionKey (key l) (c .deletions) ≡ none → DeletionIs S (key l) none
+    no-delete q = subst (DeletionIs S (key l)) q (I .deletion-is (key l))
 
-    by-kind : (t : Kind) → kind l ≡ t → ⊥
+    by-kind : (t : Kind) → kind l ≡ t → KeptBy t c l
     by-kind event e =
+        λ (p : find key (key l) (c .held) ≡ none) (q : find deletionKey (key l) (c .deletions) ≡ none).
         let h : HeldIs S (key l) none = subst (HeldIs S (key l)) p (I .held-is (key l)) in
         let x = h l (record { inside = m; is-kind = e; is-key = refl }) in
-        no-delete (x .0) (x .1)
-    by-kind delete e = no-delete l (record { inside = m; is-kind = e; is-key = refl })
-    by-kind blank e = b l m e
-    by-kind refused e = a e
+        no-delete q (x .0) (x .1)
+    by-kind delete e =
+        λ (p : find key (key l) (c .held) ≡ none) (q : find deletionKey (key l) (c .deletions) ≡ none). no-delete q l (record { inside = m; is-kind = e; is-key = refl })
+    by-kind blank e = absurd (b l m e)
+    by-kind link e =
+        λ (p : find linkKey (tripleKey l) (c .links) ≡ none).
+        let h : LinkIs S (tripleKey l) none = subst (LinkIs S (tripleKey l)) p (I .link-is (tripleKey l)) in
+        h l (record { inside = m; is-kind = e; is-key = refl })
+    by-kind refused e = tt
 
 -- whatever the order, the repeats and the refused lines
 pub one-catalogue : (ls ms : List (List ℕ)) → SameLines ls ms → Settled ls
     → (run empty ls ≡ lastCatalogue ls) × (run empty ms ≡ lastCatalogue ls) × IsCatalogueOf (Occurs ls) (lastCatalogue ls) × ((c : Catalogue) → IsCatalogueOf (Occurs ls) c → c ≡ lastCatalogue ls)
 one-catalogue ls ms e s =
     let only : (c : Catalogue) → IsCatalogueOf (Occurs ls) c → c ≡ lastCatalogue ls =
-    λ (c : Catalogue) (I : IsCatalogueOf (Occurs ls) c). unique (Occurs ls) (s .no-conflict) c (lastCatalogue ls) I (last-is ls) in
+    λ (c : Catalogue) (I : IsCatalogueOf (Occurs ls) c). unique (Occurs ls) (s .no-conflict) (s .no-link-conflict) c (lastCatalogue ls) I (last-is ls) in
     let J : IsCatalogueOf (Occurs ls) (lastCatalogue ms) =
     same-set (Occurs ms) (Occurs ls) (λ (x : List ℕ) (a : Acceptable x). (e x a .1, e x a .0)) (lastCatalogue ms) (last-is ms) in
     (run-last ls (s .bounded), run-last ms (settled-same ls ms e s .bounded) ∙ only (lastCatalogue ms) J, last-is ls, only)

@@ -1,6 +1,6 @@
 -- What a call answers is small: a refused line's column, and a place among the held lines.
 use Prim.Native.Nat.{ℕ, _≤_}
-use mathlib.Core.List.{List, _++_}
+use mathlib.Core.List.{List, [], _++_}
 use mathlib.Core.Option.{Option, none, some}
 use native.Mathlib.Omega.{arith}
 use borrow.Author.Tests.{leb-true}
@@ -9,13 +9,12 @@ use lib.ListN.{length, take}
 use Rattle.columns.specs.Answer.{pick, Answer, ok, refusal, tooShort}
 use Rattle.columns.proofs.laws.Bounds.{columnOf}
 use Rattle.formats.specs.Cube.{Message, readLine, wrongLength}
-use Rattle.formats.specs.Record.{wordOf}
 use Rattle.formats.proofs.laws.CubeRecordBack.{line-bound}
 use Rattle.catalogue.specs.declared.Call.{Call}
 use Rattle.catalogue.specs.declared.Looked.{Looked}
 use Rattle.catalogue.specs.Answers.{notInOrder}
 use Rattle.catalogue.specs.Assoc.{find, below}
-use Rattle.catalogue.specs.Line.{key, refusedAt}
+use Rattle.catalogue.specs.Line.{keyOf, key, refusedAt}
 use Rattle.catalogue.specs.Room.{roomSize, contents, inOrder, checked, callOf}
 use Rattle.catalogue.specs.Ordered.{Ordered}
 use Rattle.catalogue.specs.LookUp.{looked, lookedBy, lookedIn, lookUp}
@@ -32,13 +31,13 @@ checked-by P r f a g h =
     (λ l. pick-by P (inOrder (take roomSize r)) a (f notInOrder) (λ o. h (record { long = leb-true roomSize (length r) l; fine = o })) (λ o. g notInOrder))
     (λ l. g tooShort)
 
-refused-bound : (a : Answer Message) → columnOf a ≤ 80 → refusedAt a ≤ 80
+refused-bound : (a : Answer Message) → columnOf a ≤ 255 → refusedAt a ≤ 255
 refused-bound (ok m) h = omega arith
 refused-bound (refusal n k) h = h
 
-pub column-low : (r l : List ℕ) → callOf r l .column ≤ 80
+pub column-low : (r l : List ℕ) → callOf r l .column ≤ 255
 column-low r l =
-    checked-by (λ (x : Call). x .column ≤ 80) r (λ (n : ℕ). record { number = n; column = 0 }) _ (λ n. omega arith) (λ o. refused-bound (readLine l) (line-bound l))
+    checked-by (λ (x : Call). x .column ≤ 255) r (λ (n : ℕ). record { number = n; column = 0 }) _ (λ n. omega arith) (λ o. refused-bound (readLine l) (line-bound l))
 
 abbrev PlaceLow : Looked → Type 0
 PlaceLow x = x .place ≤ 512
@@ -58,5 +57,5 @@ unfolding lookUp
 place-low r so id =
     checked-by PlaceLow r (λ (n : ℕ). looked n 0) _ (λ n. omega arith)
     (λ o. pick-by PlaceLow (eqb (length so) 2) _ (looked wrongLength 0)
-    (λ s. pick-by PlaceLow (eqb (length id) 8) _ (looked wrongLength 0) (λ t. in-low r o (wordOf 0 (so ++ id))) (λ t. omega arith))
+    (λ s. pick-by PlaceLow (eqb (length id) 8) _ (looked wrongLength 0) (λ t. in-low r o (keyOf (so ++ id) [])) (λ t. omega arith))
     (λ s. omega arith))

@@ -13,7 +13,7 @@ use Rattle.formats.proofs.laws.Record.{same-self}
 use Rattle.catalogue.proofs.laws.section.Laid.{laid-length, used-fits, said-laid}
 use Rattle.catalogue.proofs.laws.step.Good.{Good, good-back, good-fits, empty-good}
 
-pub room-size : roomSize ≡ 46596
+pub room-size : roomSize ≡ 62982
 unfolding roomSize capacity
 room-size = refl
 
@@ -49,21 +49,21 @@ encoded-ordered c g z =
 zeros-split : (m n : ℕ) → m ≤ n → replicate {A = ℕ} n 0 ≡ replicate m 0 ++ replicate (n - m) 0
 zeros-split m n h = let e : n ≡ m + (n - m) = omega arith in ap (λ (k : ℕ). replicate {A = ℕ} k 0) e ∙ sym (replicate-append-replicate {A = ℕ} m (n - m) 0)
 
-laid-empty : laid (parts empty) ≡ replicate 4 0
+laid-empty : laid (parts empty) ≡ replicate 6 0
 unfolding laid flat count
 laid-empty = refl
 
 pub zeroed-empty : replicate roomSize 0 ≡ encode empty
 unfolding encode roomOf
 zeroed-empty =
-    zeros-split 4 roomSize (omega (arith, room-size)) ∙ ap (λ (q : List ℕ). q ++ replicate (roomSize - length q) 0) (sym laid-empty)
+    zeros-split 6 roomSize (omega (arith, room-size)) ∙ ap (λ (q : List ℕ). q ++ replicate (roomSize - length q) 0) (sym laid-empty)
 
 -- a zeroed room is in order and names no pair
-pub zeroed-ordered : Ordered (replicate 46596 0)
+pub zeroed-ordered : Ordered (replicate 62982 0)
 zeroed-ordered =
     subst (λ (n : ℕ). Ordered (replicate n 0)) room-size (subst Ordered (append-nil (encode empty) ∙ sym zeroed-empty) (encoded-ordered empty empty-good []))
 
-pub zeroed-named : named (contents (replicate 46596 0)) ≡ 0
+pub zeroed-named : named (contents (replicate 62982 0)) ≡ 0
 unfolding named onlyHeld
 zeroed-named =
     ap (λ (n : ℕ). named (contents (replicate n 0))) (sym room-size)

@@ -2,6 +2,7 @@
 use Prim.Native.Nat.{ℕ, _+_, _≤_}
 use mathlib.Core.Path.{_≡_, refl, sym, _∙_, ap, subst}
 use mathlib.Core.Logic.{inl, inr}
+use mathlib.Core.Bool.{false}
 use mathlib.Core.List.{List, [], _∷_}
 use mathlib.Core.Option.{some}
 use native.Mathlib.Omega.{arith}
@@ -14,14 +15,14 @@ use Rattle.catalogue.specs.declared.decide.Notice.{Notice}
 use Rattle.catalogue.specs.declared.decide.Notice.the-variants.{Event, Delete, Blank}
 use Rattle.catalogue.specs.declared.decide.Findings.{Findings}
 use Rattle.catalogue.specs.Assoc.{find, AscFrom}
-use Rattle.catalogue.specs.Line.{Acceptable, event, kind, key, pair, deletion, deletionKey}
+use Rattle.catalogue.specs.Line.{Acceptable, event, delete, blank, link, kind, key, pair, deletion, deletionKey}
 use Rattle.catalogue.specs.Catalogue.{named}
 use Rattle.catalogue.specs.Taking.{covered, decide, limited, deedOf}
 use Rattle.catalogue.specs.Room.{contents}
 use Rattle.catalogue.specs.Ordered.{Ordered}
 use Rattle.catalogue.specs.Keys.{keyIn}
 use Rattle.catalogue.specs.Entries.{entriesOf, entryKey, entryOf, Inside, Sought, placeOf}
-use Rattle.catalogue.specs.Places.{endOf, heldIn, deletionsIn}
+use Rattle.catalogue.specs.Places.{endOf, heldIn, deletionsIn, linksIn}
 use Rattle.catalogue.specs.Findings.{noticeKind, IsFound, Placed, Known}
 use Rattle.catalogue.proofs.laws.assoc.Below.{below-le}
 use Rattle.catalogue.proofs.laws.section.Keys.{first-two, first-eight}
@@ -32,13 +33,25 @@ use Rattle.catalogue.proofs.laws.room.Encode.{room-size}
 use Rattle.catalogue.proofs.laws.room.View.{view-good}
 use Rattle.catalogue.proofs.laws.room.Places.{held-key, deletion-key, held-entries, deletion-entries, held-inside, deletion-inside, held-asc, deletion-asc, used-fits}
 
+-- the notice of an E line
+event-notice : (n : Notice) → noticeKind n ≡ event → n ≡ Event
+event-notice Event e = refl
+event-notice Delete e = let z : _≡_ {A = ℕ} 0 1 = cc in absurd (omega arith)
+event-notice Blank e = let z : _≡_ {A = ℕ} 0 1 = cc in absurd (omega arith)
+
+-- a notice is no link
+pub notice-apart : (l : List ℕ) (n : Notice) → kind l ≡ noticeKind n → kind l ≡ link → ⊥
+notice-apart l Event e r = let z : _≡_ {A = ℕ} 0 1 = cc in omega arith
+notice-apart l Delete e r = let z : _≡_ {A = ℕ} 0 1 = cc in omega arith
+notice-apart l Blank e r = let z : _≡_ {A = ℕ} 0 1 = cc in omega arith
+
 -- a notice is an acceptable line
 pub notice-ok : (l : List ℕ) (n : Notice) → kind l ≡ noticeKind n → Acceptable l
 notice-ok l Event e r = let z : _≡_ {A = ℕ} 0 1 = cc in omega arith
 notice-ok l Delete e r = let z : _≡_ {A = ℕ} 0 1 = cc in omega arith
 notice-ok l Blank e r = let z : _≡_ {A = ℕ} 0 1 = cc in omega arith
 
-pub line-key : (l : List ℕ) → keyIn 10 2 l ≡ key l
+pub line-key : (l : List ℕ) → keyIn false 10 2 l ≡ key l
 unfolding keyIn key pair
 line-key l = refl
 
@@ -54,8 +67,8 @@ sought-place f k xs (Found i) h = h .1
 sought-place f k xs (Missing i) h = omega (arith, h .0, below-le f k xs)
 
 module _ (r : List ℕ) (o : Ordered r) where
-  pub long-enough : (2 ≤ length r) × (endOf (heldIn r) + 2 ≤ length r)
-  long-enough = (omega (arith, room-size, o .long), omega (arith, used-fits r o, o .long))
+  pub long-enough : (2 ≤ length r) × (endOf (heldIn r) + 2 ≤ length r) × (endOf (deletionsIn r) + 2 ≤ length r) × (endOf (linksIn r) ≤ length r)
+  long-enough = (omega (arith, room-size, o .long), omega (arith, used-fits r o, o .long), omega (arith, used-fits r o, o .long), omega (arith, used-fits r o, o .long))
 
   -- both sections can be searched, and what a search finds is found in the catalogue
   module _ {s : Section} (e : s ≡ heldIn r) where
@@ -111,15 +124,15 @@ module _ (r : List ℕ) (o : Ordered r) where
     -- what was found decides, searched or not
     pub known-decides : (n : Notice) → kind l ≡ noticeKind n
         → limited (named (contents r)) (entryOf (entriesOf (f .deletions) r) (f .in_deletions)) (entryOf (entriesOf (f .held) r) (f .in_held))
-        (decide (noticeKind n) l (entryOf (entriesOf (f .deletions) r) (f .in_deletions)) (entryOf (entriesOf (f .held) r) (f .in_held)))
+        (decide n l (entryOf (entriesOf (f .deletions) r) (f .in_deletions)) (entryOf (entriesOf (f .held) r) (f .in_held)))
         ≡ deedOf (contents r) l
     unfolding limited decide covered
     known-decides n e =
         elim (K .in-deletions) [
           | inl s ↦
-              sym (deed-of (contents r) l (noticeKind n) (entryOf (entriesOf (f .deletions) r) (f .in_deletions)) (entryOf (entriesOf (f .held) r) (f .in_held)) e
+              sym (deed-of (contents r) l n (entryOf (entriesOf (f .deletions) r) (f .in_deletions)) (entryOf (entriesOf (f .held) r) (f .in_held)) e
               (sought-find deletionKey (key l) (contents r .deletions) (view-good r o .deletion-ascends) (f .in_deletions) s ∙ ap (λ (xs : List (List ℕ)). entryOf xs (f .in_deletions)) (sym deletion-rows)) found-held)
           | inr u ↦
               let w = some-held (entriesOf (f .held) r) (f .in_held) (u .1) in
-              rw (u .2, w .1, sym e ∙ u .0) (sym (held-decides (contents r) l (view-good r o) (w .0) (u .0) (found-held ∙ w .1)))
+              rw (u .2, w .1, event-notice n (sym e ∙ u .0)) (sym (held-decides (contents r) l (view-good r o) (w .0) (u .0) (found-held ∙ w .1)))
         ]

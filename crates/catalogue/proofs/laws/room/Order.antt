@@ -1,7 +1,7 @@
 -- The order check: a law for each of its answers.
 use Prim.Native.Nat.{ℕ, _+_, _-_, _≤_, _<_}
 use mathlib.Core.Path.{_≡_, refl, sym, _∙_, ap, subst}
-use mathlib.Core.Bool.{Bool, true, false}
+use mathlib.Core.Bool.{Bool, true, false, _&&_}
 use mathlib.Core.List.{List, _++_}
 use native.Mathlib.Omega.{arith}
 use lib.ListN.{length, take, drop, getD, length-drop}
@@ -9,15 +9,15 @@ use lib.Seq.{take-all, length-take-le}
 use Rattle.columns.specs.Answer.{pick}
 use Rattle.formats.specs.Record.{sameBytes}
 use Rattle.catalogue.specs.declared.section.Section.{Section}
-use Rattle.catalogue.specs.Line.{key, deletionKey}
+use Rattle.catalogue.specs.Line.{key, deletionKey, linkKey}
 use Rattle.catalogue.specs.Assoc.{AscFrom}
 use Rattle.catalogue.specs.Section.{laid, said}
 use Rattle.catalogue.specs.Catalogue.{Catalogue, empty, parts, onlyHeld, named}
-use Rattle.catalogue.specs.Good.{ascends, every, heldOk, deletionOk, good}
+use Rattle.catalogue.specs.Good.{ascends, every, heldOk, deletionOk, linkOk, good}
 use Rattle.catalogue.specs.Room.{roomOf, roomSize, encode, contents, inOrder}
 use Rattle.catalogue.specs.Ordered.{Ordered}
 use Rattle.catalogue.specs.Entries.{entriesOf, entryKey, Inside}
-use Rattle.catalogue.specs.Places.{endOf, heldIn, deletionsIn}
+use Rattle.catalogue.specs.Places.{endOf, heldIn, deletionsIn, linksIn}
 use Rattle.catalogue.specs.Keys.{two}
 use Rattle.catalogue.specs.Zeros.{allZero}
 use Rattle.catalogue.proofs.laws.assoc.Tests.{and-both, pick-by, picked, unpicked, asc-of}
@@ -26,7 +26,7 @@ use Rattle.catalogue.proofs.laws.section.Laid.{used, laid-length, laid-
 use Rattle.catalogue.proofs.laws.step.Good.{Tests, tests-of, tests-good, good-of, good-fits}
 use Rattle.catalogue.proofs.laws.room.Encode.{room-size}
 use Rattle.catalogue.proofs.laws.room.View.{same-contents, view-good}
-use Rattle.catalogue.proofs.laws.room.Places.{held-key, deletion-key, contents-entries, few}
+use Rattle.catalogue.proofs.laws.room.Places.{held-key, deletion-key, link-key, contents-entries, few, held-lies, deletions-lie, links-lie}
 use Rattle.catalogue.proofs.laws.room.Zeros.{zero-rest}
 
 differ : (b : Bool) → b ≡ true → b ≡ false → ⊥
@@ -49,45 +49,55 @@ module _ (s : List ℕ) (len : length s ≡ roomSize) where
   pub held-end : {held : Section} → held ≡ heldIn s → held .count ≤ 512 → endOf held + 2 ≤ length s
   held-end e h = omega (arith, ap endOf e, ap (λ (x : Section). x .count) e, len, room-size)
 
+  pub deletions-end : {held deletions : Section} → held ≡ heldIn s → deletions ≡ deletionsIn s → held .count ≤ 512 → deletions .count ≤ 512 → endOf deletions + 2 ≤ length s
+  deletions-end d e h k = omega (arith, ap endOf e, ap (λ (x : Section). x .count) d, ap (λ (x : Section). x .count) e, len, room-size)
+
+  pub many-links : {links : Section} → links ≡ linksIn s → 64 < links .count → PairsOf s 513
+  many-links e h = refused (λ (o : inOrder s ≡ true). omega (arith, few s (as-ordered o) .2, ap (λ (x : Section). x .count) e))
+
   pub many-deletions : {deletions : Section} → deletions ≡ deletionsIn s → 512 < deletions .count → PairsOf s 513
   many-deletions e h = refused (λ (o : inOrder s ≡ true). omega (arith, few s (as-ordered o) .1, ap (λ (x : Section). x .count) e))
 
 -- ---- the sections that the code reads, neither too long
 
-pub record Sections (s : List ℕ) (held deletions : Section) : Type 0 where
+pub record Sections (s : List ℕ) (held deletions links : Section) : Type 0 where
   pub full : length s ≡ roomSize
   pub held-is : held ≡ heldIn s
   pub deletions-are : deletions ≡ deletionsIn s
+  pub links-are : links ≡ linksIn s
   pub few-held : held .count ≤ 512
   pub few-deletions : deletions .count ≤ 512
+  pub few-links : links .count ≤ 64
 
 -- the catalogue of their entries
-abbrev read : List ℕ → Section → Section → Catalogue
-read s held deletions = record { held = entriesOf held s; deletions = entriesOf deletions s }
+abbrev read : List ℕ → Section → Section → Section → Catalogue
+read s held deletions links = record { held = entriesOf held s; deletions = entriesOf deletions s; links = entriesOf links s }
 
-module _ {s : List ℕ} {held deletions : Section} (S : Sections s held deletions) where
-  counts : (held .count ≡ two s 0) × (deletions .count ≡ two s (endOf (heldIn s)))
-  counts = (ap (λ (x : Section). x .count) (S .held-is), ap (λ (x : Section). x .count) (S .deletions-are))
+module _ {s : List ℕ} {held deletions links : Section} (S : Sections s held deletions links) where
+  counts : (held .count ≡ two s 0) × (deletions .count ≡ two s (endOf (heldIn s))) × (links .count ≡ two s (endOf (deletionsIn s)))
+  counts = (ap (λ (x : Section). x .count) (S .held-is), ap (λ (x : Section). x .count) (S .deletions-are), ap (λ (x : Section). x .count) (S .links-are))
 
-  pub deletions-end : endOf deletions ≤ 46596
-  deletions-end = omega (arith, ap endOf (S .deletions-are), counts .0, counts .1, S .few-held, S .few-deletions)
+  pub links-end : endOf links ≤ 62982
+  links-end = omega (arith, ap endOf (S .links-are), counts .0, counts .1, counts .2, S .few-held, S .few-deletions, S .few-links)
 
   pub held-within : Inside held s
-  held-within = rw (S .held-is) (record { fits = omega (arith, counts .0, S .few-held, S .full, room-size); source = omega arith; identifier = omega arith })
+  held-within = rw (S .held-is) (held-lies s (omega (arith, counts .0, S .few-held, S .full, room-size)))
 
   pub deletions-within : Inside deletions s
-  deletions-within =
-      rw (S .deletions-are) (record { fits = omega (arith, ap endOf (S .deletions-are), deletions-end, S .full, room-size); source = omega arith; identifier = omega arith })
+  deletions-within = rw (S .deletions-are) (deletions-lie s (omega (arith, counts .0, counts .1, S .few-held, S .few-deletions, S .full, room-size)))
 
-  contents-are : contents s ≡ read s held deletions
-  contents-are = contents-entries s ∙ sym (rw (S .held-is, S .deletions-are))
+  pub links-within : Inside links s
+  links-within = rw (S .links-are) (links-lie s (omega (arith, ap endOf (S .links-are), links-end, S .full, room-size)))
 
-  tests : inOrder s ≡ true → Tests (read s held deletions)
+  contents-are : contents s ≡ read s held deletions links
+  contents-are = contents-entries s ∙ sym (rw (S .held-is, S .deletions-are, S .links-are))
+
+  tests : inOrder s ≡ true → Tests (read s held deletions links)
   unfolding inOrder
-  tests e = tests-of (read s held deletions) (ap good (sym contents-are) ∙ and-both (good (contents s)) (sameBytes (encode (contents s)) s) e .0)
+  tests e = tests-of (read s held deletions links) (ap good (sym contents-are) ∙ and-both (good (contents s)) (sameBytes (encode (contents s)) s) e .0)
 
   -- a test that fails
-  fails : {b : Bool} → (Tests (read s held deletions) → b ≡ true) → b ≡ false → PairsOf s 513
+  fails : {b : Bool} → (Tests (read s held deletions links) → b ≡ true) → b ≡ false → PairsOf s 513
   fails {b} t e = refused s (S .full) (λ (o : inOrder s ≡ true). differ b (t (tests o)) e)
 
   held-same : ascends (entryKey held) 0 (entriesOf held s) ≡ ascends key 0 (entriesOf held s)
@@ -103,13 +113,19 @@ module _ {s : List ℕ} {held deletions : Section} (S : Sections s held deletion
   deletions-asc e = asc-of deletionKey 0 (entriesOf deletions s) (sym deletions-same ∙ e)
 
   pub deletions-mixed : ascends (entryKey deletions) 0 (entriesOf deletions s) ≡ false → PairsOf s 513
-  deletions-mixed = fails (λ (t : Tests (read s held deletions)). deletions-same ∙ t .deletions-ascend)
+  deletions-mixed = fails (λ (t : Tests (read s held deletions links)). deletions-same ∙ t .deletions-ascend)
 
   pub held-mixed : ascends (entryKey held) 0 (entriesOf held s) ≡ false → PairsOf s 513
-  held-mixed = fails (λ (t : Tests (read s held deletions)). held-same ∙ t .held-ascends)
+  held-mixed = fails (λ (t : Tests (read s held deletions links)). held-same ∙ t .held-ascends)
+
+  links-same : ascends (entryKey links) 0 (entriesOf links s) ≡ ascends linkKey 0 (entriesOf links s)
+  links-same = ap (λ (f : List ℕ → ℕ). ascends f 0 (entriesOf links s)) (ap entryKey (S .links-are) ∙ link-key s)
+
+  pub links-unfit : (ascends (entryKey links) 0 (entriesOf links s) && every linkOk (entriesOf links s)) ≡ false → PairsOf s 513
+  links-unfit = fails (λ (t : Tests (read s held deletions links)). rw (links-same, t .links-ascend) (t .links-fine))
 
   pub deletions-barred : every deletionOk (entriesOf deletions s) ≡ false → PairsOf s 513
-  deletions-barred = fails (λ (t : Tests (read s held deletions)). t .deletions-fine)
+  deletions-barred = fails (λ (t : Tests (read s held deletions links)). t .deletions-fine)
 
   -- the held lines that no deletion names, counted
   module _ {k : ℕ} (counted : k ≡ pick (every (heldOk (entriesOf deletions s)) (entriesOf held s)) (length (onlyHeld (entriesOf deletions s) (entriesOf held s))) 513) where
@@ -121,20 +137,26 @@ module _ {s : List ℕ} {held deletions : Section} (S : Sections s held deletion
         omega (arith, tests e .few-named, entries-length deletions s))
 
     module _ (a : ascends (entryKey deletions) 0 (entriesOf deletions s) ≡ true) (b : ascends (entryKey held) 0 (entriesOf held s) ≡ true)
-        (d : every deletionOk (entriesOf deletions s) ≡ true) (low : deletions .count + k ≤ 512) where
+        (d : every deletionOk (entriesOf deletions s) ≡ true) (p : (ascends (entryKey links) 0 (entriesOf links s) && every linkOk (entriesOf links s)) ≡ true) (low : deletions .count + k ≤ 512) where
       held-all : (every (heldOk (entriesOf deletions s)) (entriesOf held s) ≡ true) × (k ≡ length (onlyHeld (entriesOf deletions s) (entriesOf held s)))
       held-all = picked (every (heldOk (entriesOf deletions s)) (entriesOf held s)) counted (λ (e : k ≡ 513). omega arith)
+
+      links-both : (ascends (entryKey links) 0 (entriesOf links s) ≡ true) × (every linkOk (entriesOf links s) ≡ true)
+      links-both = and-both (ascends (entryKey links) 0 (entriesOf links s)) (every linkOk (entriesOf links s)) p
 
       good-contents : good (contents s) ≡ true
       unfolding named
       good-contents =
           ap good contents-are
-          ∙ tests-good (read s held deletions) (record {
+          ∙ tests-good (read s held deletions links) (record {
             held-ascends = sym held-same ∙ b;
             deletions-ascend = sym deletions-same ∙ a;
             held-fine = held-all .0;
             deletions-fine = d;
             few-named = omega (arith, held-all .1, entries-length deletions s);
+            links-ascend = sym links-same ∙ links-both .0;
+            links-fine = links-both .1;
+            few-links = omega (arith, S .few-links, entries-length links s);
           })
 
       named-is : deletions .count + k ≡ named (contents s)
@@ -144,7 +166,7 @@ module _ {s : List ℕ} {held deletions : Section} (S : Sections s held deletion
       laid-is : length (laid (parts (contents s))) ≡ used (parts (contents s))
       laid-is = laid-length (parts (contents s)) (good-fits (contents s) (good-of (contents s) good-contents))
 
-      module _ (small : (i : ℕ) → getD s i 0 < 256) {u : ℕ} (end : u ≡ endOf deletions) where
+      module _ (small : (i : ℕ) → getD s i 0 < 256) {u : ℕ} (end : u ≡ endOf links) where
         used-is : length (laid (parts (contents s))) ≡ u
         used-is =
             omega (
@@ -152,40 +174,43 @@ module _ {s : List ℕ} {held deletions : Section} (S : Sections s held deletion
               laid-is,
               ap (λ (c : Catalogue). length (c .held)) contents-are,
               ap (λ (c : Catalogue). length (c .deletions)) contents-are,
+              ap (λ (c : Catalogue). length (c .links)) contents-are,
               entries-length held s,
               entries-length deletions s,
+              entries-length links s,
               counts .0,
               counts .1,
-              ap endOf (S .deletions-are),
+              counts .2,
+              ap endOf (S .links-are),
             )
 
         front : laid (parts (contents s)) ++ drop (length (laid (parts (contents s)))) s ≡ s
         unfolding contents said
         front =
             ap (λ (n : ℕ). laid (parts (contents s)) ++ drop n s) laid-is
-            ∙ laid-said (parts empty) s small (omega (arith, laid-is, used-is, deletions-end, S .full, room-size))
+            ∙ laid-said (parts empty) s small (omega (arith, laid-is, used-is, links-end, S .full, room-size))
 
-        in-order-is : inOrder s ≡ allZero (take (46596 - u) (drop u s))
+        in-order-is : inOrder s ≡ allZero (take (62982 - u) (drop u s))
         unfolding inOrder encode roomOf
         in-order-is =
-            let rest : take (46596 - u) (drop u s) ≡ drop (length (laid (parts (contents s)))) s =
-            take-all (46596 - u) (drop u s) (simp length-drop (omega (arith, S .full, room-size))) ∙ ap (λ (n : ℕ). drop n s) (sym used-is) in
+            let rest : take (62982 - u) (drop u s) ≡ drop (length (laid (parts (contents s)))) s =
+            take-all (62982 - u) (drop u s) (simp length-drop (omega (arith, S .full, room-size))) ∙ ap (λ (n : ℕ). drop n s) (sym used-is) in
             rw (good-contents, ← S .full) (zero-rest (laid (parts (contents s))) s front ∙ ap allZero (sym rest))
 
         -- what is left to test is that the rest is zero
-        pub named-pairs : {z : Bool} → z ≡ allZero (take (46596 - u) (drop u s)) → PairsOf s (pick z (deletions .count + k) 513)
+        pub named-pairs : {z : Bool} → z ≡ allZero (take (62982 - u) (drop u s)) → PairsOf s (pick z (deletions .count + k) 513)
         named-pairs e = rw (e, ← in-order-is, named-is)
 
 -- ---- the first bytes of a longer room
 
-module _ (r : List ℕ) (long : 46596 ≤ length r) where
-  front-is : take (46596 - 0) (drop 0 r) ≡ take roomSize r
-  front-is = let e : 46596 - 0 ≡ roomSize = omega (arith, room-size) in ap (λ (n : ℕ). take n r) e
+module _ (r : List ℕ) (long : 62982 ≤ length r) where
+  front-is : take (62982 - 0) (drop 0 r) ≡ take roomSize r
+  front-is = let e : 62982 - 0 ≡ roomSize = omega (arith, room-size) in ap (λ (n : ℕ). take n r) e
 
-  pub front-length : length (take (46596 - 0) (drop 0 r)) ≡ roomSize
+  pub front-length : length (take (62982 - 0) (drop 0 r)) ≡ roomSize
   front-length = ap length front-is ∙ length-take-le roomSize r (omega (arith, room-size))
 
-  module _ {n : ℕ} (counted : PairsOf (take (46596 - 0) (drop 0 r)) n) where
+  module _ {n : ℕ} (counted : PairsOf (take (62982 - 0) (drop 0 r)) n) where
     front-counted : PairsOf (take roomSize r) n
     front-counted = subst (λ (s : List ℕ). PairsOf s n) front-is counted
 

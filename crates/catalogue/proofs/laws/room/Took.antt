@@ -1,28 +1,28 @@
 -- What taking a line answers and counts, from what the code found and decided.
-use Prim.Native.Nat.{ℕ, _≤_}
-use mathlib.Core.Path.{_≡_, refl, sym, _∙_, ap, subst}
+use Prim.Native.Nat.{ℕ, _+_, _≤_}
+use mathlib.Core.Path.{_≡_, refl, sym, _∙_, ap, ap₂, subst}
 use mathlib.Core.Bool.{Bool, true, false}
 use mathlib.Core.List.{List}
 use native.Mathlib.Omega.{arith}
 use lib.Dec.{eqb}
-use lib.ListN.{getD}
+use lib.ListN.{length, getD}
 use borrow.Author.Tests.{eq-eqb, eqb-true}
 use Rattle.columns.specs.Answer.{pick, Answer, ok, refusal}
-use Rattle.formats.specs.Cube.{Message, eventKind, readLine, lineOf}
+use Rattle.formats.specs.Cube.{Message, eventKind, linkKind, readLine, lineOf}
 use Rattle.formats.specs.declared.cube.LineRead.{LineRead}
 use Rattle.formats.specs.declared.cube.Read.the-variants.{There}
 use Rattle.formats.proofs.laws.CubeFields.{delete-version}
-use Rattle.formats.proofs.laws.CubeRecord.{was-event, was-delete}
+use Rattle.formats.proofs.laws.CubeRecord.{was-event, was-delete, was-link}
 use Rattle.catalogue.specs.declared.section.Seek.{Seek}
 use Rattle.catalogue.specs.declared.section.Seek.the-variants.{Found, Missing}
 use Rattle.catalogue.specs.declared.decide.Deed.{Deed}
-use Rattle.catalogue.specs.declared.decide.Deed.the-variants.{Leave, Hold, Note, Wipe}
+use Rattle.catalogue.specs.declared.decide.Deed.the-variants.{Leave, Hold, Note, Wipe, Link}
 use Rattle.catalogue.specs.declared.decide.Notice.{Notice}
 use Rattle.catalogue.specs.declared.decide.Notice.the-variants.{Event, Delete, Blank}
 use Rattle.catalogue.specs.declared.decide.Findings.{Findings}
 use Rattle.catalogue.specs.declared.take.Receipt.{Receipt}
-use Rattle.catalogue.specs.Line.{Acceptable, event, delete, blank, refused, kindOf, kind, refusedBy, refusedAt, key, deletionKey}
-use Rattle.catalogue.specs.Catalogue.{Catalogue, named}
+use Rattle.catalogue.specs.Line.{Acceptable, event, delete, blank, link, refused, kindOf, kind, refusedBy, refusedAt, key, deletionKey}
+use Rattle.catalogue.specs.Catalogue.{Catalogue, onlyHeld, named}
 use Rattle.catalogue.specs.Taking.{decide, limited, deedOf, done, step}
 use Rattle.catalogue.specs.Room.{contents, roomAfter}
 use Rattle.catalogue.specs.Ordered.{Ordered}
@@ -30,8 +30,10 @@ use Rattle.catalogue.specs.Entries.{Sought, entriesOf, entryOf}
 use Rattle.catalogue.specs.Findings.{noticeKind, noticeOf, IsFound, Known, answered, oneMore, namedAfter, Took}
 use Rattle.catalogue.proofs.laws.section.Seek.{found-find, missing-find}
 use Rattle.catalogue.proofs.laws.step.Names.{held-named, deletion-named}
-use Rattle.catalogue.proofs.laws.step.Count.{Changes, named-leave, named-known, named-new}
+use Rattle.catalogue.proofs.laws.step.Count.{Changes, named-leave, named-link, named-known, named-new}
 use Rattle.catalogue.proofs.laws.step.Decide.{deed-refused}
+use Rattle.catalogue.proofs.laws.step.Link.{link-ok}
+use Rattle.catalogue.proofs.laws.step.Untouched.{apart}
 use Rattle.catalogue.proofs.laws.room.View.{view-good, call-is, room-is, ordered-after, after-contents}
 use Rattle.catalogue.proofs.laws.room.Found.{searched, known-decides}
 use Rattle.catalogue.proofs.laws.room.Carry.{left}
@@ -48,17 +50,21 @@ blank-or-delete true = refl
 blank-or-delete false = refl
 
 module _ (l : List ℕ) (r : LineRead) (e : r ≡ lineOf (readLine l)) where
-  -- a record that is there: its kind and the line's version say which notice it is
-  pub there-kind : (k n : ℕ) → r .read ≡ There k n → kind l ≡ noticeKind (noticeOf k (getD l 12 0))
+  -- a record that is there: its kind says whether it is a link, and with the line's version which notice it is
+  pub there-link : (k t d n : ℕ) → r .read ≡ There k t d n → k ≡ linkKind → kind l ≡ link
   unfolding kind
-  there-kind k n q = by-test (eqb k eventKind) refl
+  there-link k t d n q p = ap kindOf (was-link (readLine l) r k t d n e q p .is)
+
+  pub there-kind : (k t d n : ℕ) → r .read ≡ There k t d n → (k ≡ linkKind → ⊥) → kind l ≡ noticeKind (noticeOf k (getD l 12 0))
+  unfolding kind
+  there-kind k t d n q other = by-test (eqb k eventKind) refl
     where
       by-test : (t : Bool) → eqb k eventKind ≡ t → kindOf (readLine l) ≡ noticeKind (pick t Event (pick (eqb (getD l 12 0) 32) Blank Delete))
       by-test true p =
-          let w = was-event (readLine l) r k n e q (eqb-true k eventKind p) in
+          let w = was-event (readLine l) r k t d n e q (eqb-true k eventKind p) in
           ap kindOf (w .is)
       by-test false p =
-          let w = was-delete (readLine l) r k n e q (λ (u : k ≡ eventKind). let z : true ≡ false = sym (eq-eqb k eventKind u) ∙ p in let y : _≡_ {A = ℕ} 0 1 = cc in omega arith) in
+          let w = was-delete (readLine l) r k t d n e q (λ (u : k ≡ eventKind). let z : true ≡ false = sym (eq-eqb k eventKind u) ∙ p in let y : _≡_ {A = ℕ} 0 1 = cc in omega arith) other in
           ap kindOf (w .is) ∙ ap (λ (v : ℕ). pick (eqb v 32) blank delete) (delete-version l (w .names) (w .chars) (w .is)) ∙ blank-or-delete (eqb (getD l 12 0) 32)
 
 -- ---- a room in order
@@ -70,15 +76,37 @@ done-answer (Leave n) c l = refl
 done-answer (Hold n) c l = refl
 done-answer (Note v) c l = refl
 done-answer (Wipe v) c l = refl
+done-answer (Link n) c l = refl
 
 module _ {r : List ℕ} (o : Ordered r) where
   pub few-named : named (contents r) ≤ 512
   few-named = view-good r o .few
 
+  -- an acceptable line, taken
+  took-by : (l : List ℕ) → Acceptable l → {e : Deed} → e ≡ deedOf (contents r) l → {after : List ℕ} → after ≡ roomAfter r l → (t : Receipt)
+      → t .call ≡ record { number = answered e; column = 0 } → t .named ≡ named (step (contents r) l .after) → Took r l after t
+  unfolding kind step
+  took-by l a {e} p {after} w t u v =
+      let answers : answered e ≡ step (contents r) l .answer = sym (done-answer e (contents r) l) ∙ ap (λ (x : Deed). done x (contents r) l .answer) p in
+      record {
+        call-is = rw (u, answers, call-is r o l, at-zero (readLine l) a);
+        room-is = w;
+        ordered = rw w (ordered-after r o l);
+        named-are = rw (v, w, after-contents r o l);
+      }
+
+  -- a link, taken: the pairs named stay
+  pub took-link : (l : List ℕ) → kind l ≡ link → {e : Deed} → e ≡ deedOf (contents r) l → {m : ℕ} → m ≡ named (contents r) → {after : List ℕ} → after ≡ roomAfter r l → (t : Receipt)
+      → t .call ≡ record { number = answered e; column = 0 } → t .named ≡ m → Took r l after t
+  unfolding named
+  took-link l k p q w t u v =
+      let s = apart (contents r) l .0 k in
+      took-by l (link-ok l k) p w t u (v ∙ q ∙ sym (ap₂ (λ (hs ds : List (List ℕ)). length ds + length (onlyHeld ds hs)) (s .0) (s .1)))
+
   module _ {l : List ℕ} {f : Findings} (K : Known r l f) where
     -- the code's decision is the definition's
     pub decided : (n : Notice) → kind l ≡ noticeKind n → {m : ℕ} → m ≡ named (contents r) → {e g : Deed}
-        → e ≡ decide (noticeKind n) l (entryOf (entriesOf (f .deletions) r) (f .in_deletions)) (entryOf (entriesOf (f .held) r) (f .in_held))
+        → e ≡ decide n l (entryOf (entriesOf (f .deletions) r) (f .in_deletions)) (entryOf (entriesOf (f .held) r) (f .in_held))
         → g ≡ limited m (entryOf (entriesOf (f .deletions) r) (f .in_deletions)) (entryOf (entriesOf (f .held) r) (f .in_held)) e
         → g ≡ deedOf (contents r) l
     decided n k p q h = rw (h, p, q) (known-decides r o l f K n k)
@@ -97,22 +125,15 @@ module _ {r : List ℕ} (o : Ordered r) where
 
     named-by : (e : Deed) → deedOf (contents r) l ≡ e → namedAfter e (f .in_held) (f .in_deletions) (named (contents r)) ≡ named (step (contents r) l .after)
     named-by (Leave m) p = sym (named-leave (contents r) l m p)
-    named-by (Hold m) p = one-more (λ n q. let z : _≡_ {A = ℕ} 0 1 = cc in omega arith) (f .in_held) (f .in_deletions) refl refl
-    named-by (Note v) p = one-more (λ n q. let z : _≡_ {A = ℕ} 0 1 = cc in omega arith) (f .in_held) (f .in_deletions) refl refl
-    named-by (Wipe v) p = one-more (λ n q. let z : _≡_ {A = ℕ} 0 1 = cc in omega arith) (f .in_held) (f .in_deletions) refl refl
+    named-by (Hold m) p = one-more (subst Changes (sym p) tt) (f .in_held) (f .in_deletions) refl refl
+    named-by (Note v) p = one-more (subst Changes (sym p) tt) (f .in_held) (f .in_deletions) refl refl
+    named-by (Wipe v) p = one-more (subst Changes (sym p) tt) (f .in_held) (f .in_deletions) refl refl
+    named-by (Link m) p = sym (named-link (contents r) l m p)
 
-    -- an acceptable line, taken
+    -- an acceptable line about a pair, taken
     pub took : Acceptable l → {e : Deed} → e ≡ deedOf (contents r) l → {m : ℕ} → m ≡ named (contents r) → {after : List ℕ} → after ≡ roomAfter r l → (t : Receipt)
         → t .call ≡ record { number = answered e; column = 0 } → t .named ≡ namedAfter e (f .in_held) (f .in_deletions) m → Took r l after t
-    unfolding kind step
-    took a {e} p q {after} w t u v =
-        let answers : answered e ≡ step (contents r) l .answer = sym (done-answer e (contents r) l) ∙ ap (λ (x : Deed). done x (contents r) l .answer) p in
-        record {
-          call-is = rw (u, answers, call-is r o l, at-zero (readLine l) a);
-          room-is = w;
-          ordered = rw w (ordered-after r o l);
-          named-are = rw (v, q, w, after-contents r o l) (named-by e (sym p));
-        }
+    took a {e} p q w t u v = took-by l a p w t u (rw (v, q) (named-by e (sym p)))
 
   -- a refused line
   pub took-refused : (l : List ℕ) {n k : ℕ} → readLine l ≡ refusal n k → {m : ℕ} → m ≡ named (contents r) → (t : Receipt) → t .call ≡ record { number = n; column = k } → t .named ≡ m → Took r l r t

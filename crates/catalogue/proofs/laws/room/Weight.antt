@@ -1,33 +1,36 @@
 -- The entries of a room as the order check reads them: a deletion's bytes, a held line's weight, and the walk over the held lines.
 use Prim.Native.Nat.{ℕ, zero, suc, _+_, _*_, _-_, _≤_, _<_}
 use mathlib.Core.Path.{_≡_, refl, sym, _∙_, ap, ap₂}
-use mathlib.Core.Bool.{Bool, true, false}
-use mathlib.Core.List.{List, [], _∷_}
+use mathlib.Core.Bool.{Bool, true, false, _&&_}
+use mathlib.Core.List.{List, [], _∷_, _++_}
 use mathlib.Core.Option.{Option, none, some}
 use native.Mathlib.Numerals.{add-one}
 use native.Mathlib.Omega.{arith}
 use Rattle.catalogue.proofs.laws.assoc.Tests.{picked, unpicked}
 use borrow.Author.Tests.{eq-eqb}
 use lib.Dec.{ltb, eqb}
-use lib.ListN.{length, take, drop, getD, drop-of-length-le}
-use lib.Seq.{drop-cons}
+use lib.ListN.{length, take, drop, getD, replicate, length-drop, take-append-drop, drop-of-length-le}
+use lib.Seq.{drop-cons, take-all, length-take-le}
 use Rattle.columns.specs.Answer.{pick, Answer, ok, refusal}
 use Rattle.columns.specs.Bytes.{barred}
 use Rattle.formats.specs.Cube.{Message, readLine}
-use Rattle.formats.specs.Judge.{isEventAnswer, isEventLine}
-use Rattle.formats.proofs.laws.Judge.{event-line-is}
+use Rattle.formats.specs.Judge.{isEventAnswer, isEventLine, isLinkAnswer, isLinkLine}
+use Rattle.formats.proofs.laws.Judge.{event-line-is, link-line-is}
 use Rattle.catalogue.specs.declared.section.Section.{Section}
 use Rattle.catalogue.specs.declared.section.Seek.{Seek}
-use Rattle.catalogue.specs.Line.{delete, blank, kindOf, kind, version, key, deletionKey, deletionVersion}
+use Rattle.catalogue.specs.Line.{delete, blank, kindOf, kind, version, key, deletionKey, deletionVersion, linkEntry, linkLine}
 use Rattle.catalogue.specs.Assoc.{find, below, AscFrom}
 use Rattle.catalogue.specs.Catalogue.{onlyHeld}
-use Rattle.catalogue.specs.Good.{every, isEvent, aboveDeletion, heldOk, deletionOk}
+use Rattle.catalogue.specs.Good.{every, isEvent, aboveDeletion, heldOk, deletionOk, isLink, linkOk}
+use Rattle.formats.specs.Record.{sameBytes}
+use Rattle.catalogue.specs.Zeros.{allZero}
 use Rattle.catalogue.specs.Entries.{entriesOf, entryKey, entryOf, Inside, Sought}
 use Rattle.catalogue.specs.Places.{heldIn, deletionsIn}
 use Rattle.catalogue.proofs.laws.section.Rows.{entry-length, entry-part}
 use Rattle.catalogue.proofs.laws.section.Search.{asc-at, below-grows, every-more, every-stop, every-end}
 use Rattle.catalogue.proofs.laws.section.Seek.{sought-find, sought-as}
 use Rattle.catalogue.proofs.laws.step.Names.{only-cons, only-none, only-some}
+use Rattle.catalogue.proofs.laws.room.Zeros.{zero-rest}
 use Rattle.catalogue.proofs.laws.room.Places.{held-key, deletion-key}
 use Rattle.formats.specs.Cube as cube
 
@@ -39,6 +42,63 @@ unfolding deletionOk
 deletion-judged of s f size i h stands judged =
     rw (eq-eqb (length (getD (entriesOf of s) i [])) 11 (entry-length of s f i h ∙ size), ← entry-part of s i h size stands, ← judged)
 
+-- ---- a link's entry, judged where it stands
+
+link-answer : (a : Answer Message) → isLinkAnswer a ≡ isLink (kindOf a)
+unfolding isLink
+link-answer (ok (cube.event ns t)) = refl
+link-answer (ok (cube.delete names t)) = by-test (eqb (getD names 10 0) 32)
+  where
+    by-test : (t : Bool) → false ≡ isLink (pick t blank delete)
+    by-test true = refl
+    by-test false = refl
+link-answer (ok (cube.link names ty ad tx)) = refl
+link-answer (refusal n k) = refl
+
+link-line : (l : List ℕ) → isLinkLine l ≡ isLink (kind l)
+unfolding kind
+link-line l = link-line-is l ∙ link-answer (readLine l)
+
+-- the line that its first byte says, and zeros after it
+module _ (e : List ℕ) (n : length e ≡ 256) (b : getD e 0 0 < 256) where
+  abbrev size : ℕ
+  size = getD e 0 0
+
+  line-long : length (take size (drop 1 e)) ≡ size
+  line-long = length-take-le size (drop 1 e) (simp length-drop (omega arith))
+
+  front : (size ∷ take size (drop 1 e)) ++ drop (suc size) e ≡ e
+  front = go e n
+    where
+      go : (x : List ℕ) → length x ≡ 256 → (getD x 0 0 ∷ take (getD x 0 0) (drop 1 x)) ++ drop (suc (getD x 0 0)) x ≡ x
+      go [] h = absurd (omega arith)
+      go (y ∷ ys) h = ap (λ (l : List ℕ). y ∷ l) (take-append-drop y ys)
+
+  layout : sameBytes (linkEntry (linkLine e)) e ≡ allZero (drop (suc size) e)
+  unfolding linkEntry linkLine
+  layout =
+      let x : List ℕ = size ∷ take size (drop 1 e) in
+      let l : length x ≡ suc size = ap suc line-long in
+      let k : 255 - length (take size (drop 1 e)) ≡ length e - length x = omega (arith, line-long) in
+      let f : x ++ drop (length x) e ≡ e = ap (λ (m : ℕ). x ++ drop m e) l ∙ front in
+      ap₂ (λ (m j : ℕ). sameBytes (m ∷ (take size (drop 1 e) ++ replicate j 0)) e) line-long k ∙ zero-rest x e f ∙ ap (λ (m : ℕ). allZero (drop m e)) l
+
+  module _ {end : ℕ} (p : end ≡ 1 + size) where
+    judged-line : take (end - 1) (drop 1 e) ≡ linkLine e
+    unfolding linkLine
+    judged-line = let k : end - 1 ≡ size = omega arith in ap (λ (m : ℕ). take m (drop 1 e)) k
+
+    pub link-judged : {z : Bool} → z ≡ allZero (take (256 - end) (drop end e)) → isLinkLine (take (end - 1) (drop 1 e)) ≡ true → z ≡ linkOk e
+    unfolding linkOk
+    link-judged q t =
+        let s : end ≡ suc size = omega arith in
+        let a : take (256 - end) (drop end e) ≡ drop (suc size) e = take-all (256 - end) (drop end e) (simp length-drop (omega arith)) ∙ ap (λ (m : ℕ). drop m e) s in
+        q ∙ ap allZero a ∙ sym (ap (λ (l : List ℕ). isLink (kind l) && sameBytes (linkEntry (linkLine e)) e) (sym judged-line) ∙ rw (← link-line (take (end - 1) (drop 1 e)), t) layout)
+
+    pub link-misread : isLinkLine (take (end - 1) (drop 1 e)) ≡ false → false ≡ linkOk e
+    unfolding linkOk
+    link-misread t = sym (ap (λ (l : List ℕ). isLink (kind l) && sameBytes (linkEntry (linkLine e)) e) (sym judged-line) ∙ rw (← link-line (take (end - 1) (drop 1 e)), t))
+
 -- ---- a held line's weight: 0 where it is refused, else 1 and what it counts
 
 event-answer : (a : Answer Message) → isEventAnswer a ≡ isEvent (kindOf a)
@@ -49,6 +109,7 @@ event-answer (ok (cube.delete names t)) = by-test (eqb (getD names 10 0) 32)
     by-test : (t : Bool) → false ≡ isEvent (pick t blank delete)
     by-test true = refl
     by-test false = refl
+event-answer (ok (cube.link names ty ad tx)) = refl
 event-answer (refusal n k) = refl
 
 event-line : (l : List ℕ) → isEventLine l ≡ isEvent (kind l)

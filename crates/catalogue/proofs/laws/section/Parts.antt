@@ -25,7 +25,7 @@ pub record Stands (of : Section) (front : List Part) (w : ℕ) (xs : List (List 
   pub size-is : of .size ≡ w
   pub count-is : of .count ≡ length xs
 
-laid-split : (front : List Part) (p : Part) (back : List Part) → laid (front ++ p ∷ back) ≡ laid front ++ (count (length (p .entries)) ++ (flat (p .entries) ++ laid back))
+pub laid-split : (front : List Part) (p : Part) (back : List Part) → laid (front ++ p ∷ back) ≡ laid front ++ (count (length (p .entries)) ++ (flat (p .entries) ++ laid back))
 unfolding laid
 laid-split [] p back = refl
 laid-split (q ∷ front) p back =

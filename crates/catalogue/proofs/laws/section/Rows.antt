@@ -1,12 +1,14 @@
 -- Rows of bytes: how many, where each stands, and the key of each.
 use Prim.Native.Nat.{ℕ, zero, suc, _+_, _*_, _-_, _≤_, _<_}
 use mathlib.Core.Path.{_≡_, refl, sym, _∙_, ap, ap₂}
+use mathlib.Core.Bool.{Bool, true, false}
 use mathlib.Core.List.{List, [], _∷_}
 use native.Mathlib.Omega.{arith}
 use native.Mathlib.Nat.{mul-le-mul-left}
 use lib.ListN.{length, take, drop, getD, length-drop}
 use lib.Seq.{drop-drop, take-take, getD-drop, getD-take, length-take-le}
 use Rattle.catalogue.specs.declared.section.Section.{Section}
+use Rattle.catalogue.specs.Line.{typeAt}
 use Rattle.catalogue.specs.Section.{rows}
 use Rattle.catalogue.specs.Keys.{keyIn}
 use Rattle.catalogue.specs.Entries.{entriesOf, entryKey, Inside}
@@ -37,13 +39,18 @@ part-of-take a (suc b) (suc w) [] h = refl
 part-of-take a (suc b) (suc w) (x ∷ r) h = part-of-take a b w r (omega arith)
 
 -- a key inside a row, and in the bytes that the row is cut from
-key-row : (source identifier w : ℕ) (r : List ℕ) → source + 2 ≤ w → identifier + 8 ≤ w → keyIn source identifier (take w r) ≡ keyIn source identifier r
-unfolding keyIn
-key-row source identifier w r h k = rw (part-of-take 2 source w r h, part-of-take 8 identifier w r k)
+key-row : (typed : Bool) (source identifier w : ℕ) (r : List ℕ) → source + 2 ≤ w → identifier + 8 ≤ w → (typed ≡ true → identifier + 29 ≤ w)
+    → keyIn typed source identifier (take w r) ≡ keyIn typed source identifier r
+unfolding keyIn typeAt
+key-row true source identifier w r h k t =
+    rw (part-of-take 2 source w r h, part-of-take 8 identifier w r k, part-of-take 16 (identifier + 13) w r (omega (arith, t refl)))
+key-row false source identifier w r h k t = rw (part-of-take 2 source w r h, part-of-take 8 identifier w r k)
 
-key-drop : (source identifier at : ℕ) (r : List ℕ) → keyIn source identifier (drop at r) ≡ keyIn (at + source) (at + identifier) r
-unfolding keyIn
-key-drop source identifier at r = rw (drop-drop source at r, drop-drop identifier at r)
+key-drop : (typed : Bool) (source identifier at : ℕ) (r : List ℕ) → keyIn typed source identifier (drop at r) ≡ keyIn typed (at + source) (at + identifier) r
+unfolding keyIn typeAt
+key-drop typed source identifier at r =
+    let e : at + (identifier + 13) ≡ at + identifier + 13 = omega arith in
+    rw (drop-drop source at r, drop-drop identifier at r, drop-drop (identifier + 13) at r, e)
 
 module _ (of : Section) (s : List ℕ) where
   pub entries-length : length (entriesOf of s) ≡ of .count
@@ -67,11 +74,12 @@ module _ (of : Section) (s : List ℕ) where
         ap (λ (x : List ℕ). getD x j 0) (entry-is i h) ∙ getD-take (of .size) (drop (of .at + 2 + of .size * i) s) j 0 k ∙ getD-drop (of .at + 2 + of .size * i) s j 0
 
     -- its key, where it stands
-    pub entry-key : keyIn (of .at + 2 + of .size * i + of .source) (of .at + 2 + of .size * i + of .identifier) s ≡ entryKey of (getD (entriesOf of s) i [])
+    pub entry-key : keyIn (of .typed) (of .at + 2 + of .size * i + of .source) (of .at + 2 + of .size * i + of .identifier) s ≡ entryKey of (getD (entriesOf of s) i [])
     unfolding entryKey
     entry-key =
-        sym (ap (keyIn (of .source) (of .identifier)) (entry-is i h) ∙ key-row (of .source) (of .identifier) (of .size) (drop (of .at + 2 + of .size * i) s) (f .source) (f .identifier)
-        ∙ key-drop (of .source) (of .identifier) (of .at + 2 + of .size * i) s)
+        sym (ap (keyIn (of .typed) (of .source) (of .identifier)) (entry-is i h)
+        ∙ key-row (of .typed) (of .source) (of .identifier) (of .size) (drop (of .at + 2 + of .size * i) s) (f .source) (f .identifier) (f .type)
+        ∙ key-drop (of .typed) (of .source) (of .identifier) (of .at + 2 + of .size * i) s)
 
   -- the entry as a part of the bytes
   module _ (i : ℕ) (h : i < of .count) {w : ℕ} (e : of .size ≡ w) {at : ℕ} (p : at ≡ of .at + 2 + of .size * i) where

@@ -6,7 +6,7 @@ use mathlib.Core.List.{List}
 use mathlib.Core.Option.{Option, none}
 use native.Mathlib.Omega.{arith}
 use Rattle.catalogue.specs.declared.decide.Deed.{Deed}
-use Rattle.catalogue.specs.declared.decide.Deed.the-variants.{Leave, Hold, Note, Wipe}
+use Rattle.catalogue.specs.declared.decide.Deed.the-variants.{Leave, Hold, Note, Wipe, Link}
 use Rattle.catalogue.specs.Assoc.{find}
 use Rattle.catalogue.specs.Line.{key, deletionKey}
 use Rattle.catalogue.specs.Catalogue.{Catalogue, named}
@@ -18,21 +18,31 @@ use Rattle.catalogue.proofs.laws.step.Fair.{deed-fair}
 use Rattle.catalogue.proofs.laws.step.Done.{heldAfter, deletionAfter, done-held, done-held-other, done-deletion, done-deletion-other}
 use Rattle.catalogue.proofs.laws.step.Keep.{step-good}
 
--- a deed that changes something
+-- a deed that changes a pair
 abbrev pub Changes : Deed → Type 0
-Changes e = (n : ℕ) → e ≡ Leave n → ⊥
+Changes (Leave n) = ⊥
+Changes (Hold n) = Unit {0}
+Changes (Note v) = Unit {0}
+Changes (Wipe v) = Unit {0}
+Changes (Link n) = ⊥
 
 -- it leaves an entry of the pair
 after-named : (e : Deed) (l : List ℕ) (d h : Option (List ℕ)) → Changes e ⊎ (d ≡ none → h ≡ none → ⊥) → deletionAfter e l d ≡ none → heldAfter e l h ≡ none → ⊥
-after-named (Leave n) l d h u p q = elim u [ inl f ↦ f n refl | inr f ↦ f p q ]
+after-named (Leave n) l d h u p q = elim u [ inl f ↦ f | inr f ↦ f p q ]
 after-named (Hold n) l d h u p q = let z : _≡_ {A = ℕ} 0 1 = cc in omega arith
 after-named (Note v) l d h u p q = let z : _≡_ {A = ℕ} 0 1 = cc in omega arith
 after-named (Wipe v) l d h u p q = let z : _≡_ {A = ℕ} 0 1 = cc in omega arith
+after-named (Link n) l d h u p q = elim u [ inl f ↦ f | inr f ↦ f p q ]
 
 module _ (c : Catalogue) (l : List ℕ) where
   pub named-leave : (n : ℕ) → deedOf c l ≡ Leave n → named (step c l .after) ≡ named c
   unfolding step done
   named-leave n e = rw e
+
+  -- links do not count
+  pub named-link : (n : ℕ) → deedOf c l ≡ Link n → named (step c l .after) ≡ named c
+  unfolding step done named
+  named-link n e = rw e
 
   step-named : Changes (deedOf c l) ⊎ Names c (key l) → Names (step c l .after) (key l)
   unfolding step

@@ -10,12 +10,15 @@ use borrow.Author.Tests.{lt-ltb, le-leb, lt-leb}
 use Rattle.formats.specs.Cube.{readLine}
 use Rattle.formats.specs.Record.{sameBytes}
 use Rattle.catalogue.specs.declared.decide.Deed.{Deed}
-use Rattle.catalogue.specs.declared.decide.Deed.the-variants.{Leave, Hold, Note, Wipe}
+use Rattle.catalogue.specs.declared.decide.Deed.the-variants.{Leave, Hold, Note, Wipe, Link}
+use Rattle.catalogue.specs.declared.decide.Notice.{Notice}
+use Rattle.catalogue.specs.declared.decide.Notice.the-variants.{Event, Delete, Blank}
 use Rattle.catalogue.specs.Answers.{replaced, repeated, outdated}
 use Rattle.catalogue.specs.Assoc.{find}
-use Rattle.catalogue.specs.Line.{Kind, event, refused, kind, refusedBy, version, key, deletionKey, deletionVersion}
+use Rattle.catalogue.specs.Line.{event, link, refused, kind, refusedBy, version, key, deletionKey, deletionVersion}
 use Rattle.catalogue.specs.Catalogue.{Catalogue, named}
-use Rattle.catalogue.specs.Taking.{covered, overHeld, decide, declined, limited, deedOf}
+use Rattle.catalogue.specs.Taking.{covered, overHeld, decide, limited, pairDeed, limitedLink, linkDeed, deedOf}
+use Rattle.catalogue.specs.Findings.{noticeKind}
 use Rattle.catalogue.proofs.laws.assoc.Tri.{le, gt, le?}
 use Rattle.catalogue.proofs.laws.assoc.Tests.{pick-by}
 use Rattle.catalogue.proofs.laws.step.Good.{Good}
@@ -26,6 +29,7 @@ Plain (Leave n) = Unit {0}
 Plain (Hold n) = Unit {0}
 Plain (Note v) = ⊥
 Plain (Wipe v) = ⊥
+Plain (Link n) = ⊥
 
 pub over-held-plain : (l : List ℕ) (o : Option (List ℕ)) → Plain (overHeld l o)
 unfolding overHeld
@@ -41,26 +45,33 @@ limited-open n e none none f = rw (lt-leb 512 n (f refl refl))
 limited-open n e none (some h) f = refl
 limited-open n e (some d) h f = refl
 
-limited-leave : (n m : ℕ) (d h : Option (List ℕ)) → limited n d h (Leave m) ≡ Leave m
-unfolding limited declined
-limited-leave n m none none = pick-by (λ (e : Deed). e ≡ Leave m) (leb 512 n) (Leave m) (Leave m) (λ t. refl) (λ t. refl)
-limited-leave n m none (some h) = refl
-limited-leave n m (some d) h = refl
+pub limited-link-open : (n : ℕ) (e : Deed) (o : Option (List ℕ)) → (o ≡ none → n < 64) → limitedLink n o e ≡ e
+unfolding limitedLink
+limited-link-open n e none f = rw (lt-leb 64 n (f refl))
+limited-link-open n e (some x) f = refl
 
 -- ---- the deed
 
 module _ (c : Catalogue) (l : List ℕ) where
-  pub deed-of : (t : Kind) (d h : Option (List ℕ)) → kind l ≡ t → find deletionKey (key l) (c .deletions) ≡ d → find key (key l) (c .held) ≡ h
-      → deedOf c l ≡ limited (named c) d h (decide t l d h)
+  -- an E or a DE line
+  pub deed-pair : (t : Notice) → kind l ≡ noticeKind t → deedOf c l ≡ pairDeed t c l
   unfolding deedOf
-  deed-of t d h p q r = rw (p, q, r)
+  deed-pair Event p = rw p
+  deed-pair Delete p = rw p
+  deed-pair Blank p = rw p
+
+  pub deed-of : (t : Notice) (d h : Option (List ℕ)) → kind l ≡ noticeKind t → find deletionKey (key l) (c .deletions) ≡ d → find key (key l) (c .held) ≡ h
+      → deedOf c l ≡ limited (named c) d h (decide t l d h)
+  unfolding pairDeed
+  deed-of t d h p q r = deed-pair t p ∙ rw (q, r)
+
+  pub deed-link : kind l ≡ link → deedOf c l ≡ linkDeed c l
+  unfolding deedOf
+  deed-link p = rw p
 
   pub deed-refused : kind l ≡ refused → deedOf c l ≡ Leave (refusedBy (readLine l))
-  unfolding decide
-  deed-refused p =
-      let d : Option (List ℕ) = find deletionKey (key l) (c .deletions) in
-      let h : Option (List ℕ) = find key (key l) (c .held) in
-      deed-of refused d h p refl refl ∙ limited-leave (named c) (refusedBy (readLine l)) d h
+  unfolding deedOf
+  deed-refused p = rw p
 
   -- a held version is above its deletion, so the deletions need no look
   pub held-decides : Good c → (h : List ℕ) → kind l ≡ event → find key (key l) (c .held) ≡ some h → deedOf c l ≡ overHeld l (some h)
@@ -68,9 +79,9 @@ module _ (c : Catalogue) (l : List ℕ) where
   held-decides G h p r = go (find deletionKey (key l) (c .deletions)) refl
     where
       go : (d : Option (List ℕ)) → find deletionKey (key l) (c .deletions) ≡ d → deedOf c l ≡ overHeld l (some h)
-      go none q = deed-of event none (some h) p q r
+      go none q = deed-of Event none (some h) p q r
       go (some d) q =
-          deed-of event (some d) (some h) p q r
+          deed-of Event (some d) (some h) p q r
           ∙ elim (le? (version l) (deletionVersion d)) [
             | le v ↦ rw (le-leb (version l) (deletionVersion d) v, lt-ltb (version l) (version h) (omega (arith, G .held-fine (key l) h r .1 d q)))
             | gt v ↦ rw (lt-leb (version l) (deletionVersion d) v)

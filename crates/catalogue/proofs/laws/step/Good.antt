@@ -10,15 +10,16 @@ use lib.ListN.{length, length-map}
 use borrow.Author.Tests.{ltb-true, leb-true, eqb-true, le-leb, lt-ltb}
 use Rattle.columns.specs.Bytes.{barred}
 use Rattle.catalogue.specs.Assoc.{find, AscFrom}
-use Rattle.catalogue.specs.Line.{Kind, event, delete, blank, refused, kind, version, key, deletionKey, deletionVersion}
+use Rattle.catalogue.specs.Line.{Kind, event, delete, blank, link, refused, kind, version, key, deletionKey, deletionVersion, linkKey}
 use Rattle.catalogue.specs.Catalogue.{Catalogue, empty, parts, onlyHeld, named}
-use Rattle.catalogue.specs.Good.{ascends, every, isEvent, aboveDeletion, heldOk, deletionOk, good}
+use Rattle.catalogue.specs.Good.{ascends, every, isEvent, aboveDeletion, heldOk, deletionOk, linkOk, goodPairs, goodLinks, good}
 use Rattle.catalogue.proofs.laws.assoc.Assoc.{find-key}
 use Rattle.catalogue.proofs.laws.assoc.Distinct.{pigeon}
 use Rattle.catalogue.proofs.laws.assoc.Members.{keys-distinct, found, found-self}
 use Rattle.catalogue.proofs.laws.assoc.Tests.{and-both, asc-of, ascends-true, every-true, every-find}
 use Rattle.catalogue.proofs.laws.section.Wide.{Fits, wide}
 use Rattle.catalogue.proofs.laws.step.Line.{event-length}
+use Rattle.catalogue.proofs.laws.step.Link.{ok-wide}
 use Rattle.catalogue.proofs.laws.step.Names.{names, names-length, names-mem}
 
 pub record Good (c : Catalogue) : Type 0 where
@@ -28,6 +29,9 @@ pub record Good (c : Catalogue) : Type 0 where
       → (kind h ≡ event) × ((d : List ℕ) → find deletionKey k (c .deletions) ≡ some d → deletionVersion d < version h)
   pub deletion-fine : (k : ℕ) (d : List ℕ) → find deletionKey k (c .deletions) ≡ some d → deletionOk d ≡ true
   pub few : named c ≤ 512
+  pub link-ascends : AscFrom linkKey 0 (c .links)
+  pub link-fine : (k : ℕ) (e : List ℕ) → find linkKey k (c .links) ≡ some e → linkOk e ≡ true
+  pub few-links : length (c .links) ≤ 64
 
 -- ---- the test, taken apart and put together
 
@@ -36,6 +40,7 @@ unfolding isEvent
 event-of event h = refl
 event-of delete h = let z : _≡_ {A = ℕ} 0 1 = cc in absurd (omega arith)
 event-of blank h = let z : _≡_ {A = ℕ} 0 1 = cc in absurd (omega arith)
+event-of link h = let z : _≡_ {A = ℕ} 0 1 = cc in absurd (omega arith)
 event-of refused h = let z : _≡_ {A = ℕ} 0 1 = cc in absurd (omega arith)
 
 above-of : (o : Option (List ℕ)) (h : List ℕ) → aboveDeletion o h ≡ true → (d : List ℕ) → o ≡ some d → deletionVersion d < version h
@@ -59,26 +64,42 @@ module _ (deletions : List (List ℕ)) (h : List ℕ) where
   unfolding heldOk isEvent
   held-ok-join e f = simp (e, above-true (find deletionKey (key h) deletions) h f)
 
--- the five tests
+-- the eight tests
 pub record Tests (c : Catalogue) : Type 0 where
   pub held-ascends : ascends key 0 (c .held) ≡ true
   pub deletions-ascend : ascends deletionKey 0 (c .deletions) ≡ true
   pub held-fine : every (heldOk (c .deletions)) (c .held) ≡ true
   pub deletions-fine : every deletionOk (c .deletions) ≡ true
   pub few-named : named c ≤ 512
+  pub links-ascend : ascends linkKey 0 (c .links) ≡ true
+  pub links-fine : every linkOk (c .links) ≡ true
+  pub few-links : length (c .links) ≤ 64
 
 pub tests-of : (c : Catalogue) → good c ≡ true → Tests c
-unfolding good
+unfolding good goodPairs goodLinks
 tests-of c g =
-    let r = and-both (ascends key 0 (c .held) && ascends deletionKey 0 (c .deletions)) ((every (heldOk (c .deletions)) (c .held) && every deletionOk (c .deletions)) && leb (named c) 512) g in
+    let p = and-both (goodPairs c) (goodLinks (c .links)) g in
+    let r = and-both (ascends key 0 (c .held) && ascends deletionKey 0 (c .deletions)) ((every (heldOk (c .deletions)) (c .held) && every deletionOk (c .deletions)) && leb (named c) 512) (p .0) in
     let a = and-both (ascends key 0 (c .held)) (ascends deletionKey 0 (c .deletions)) (r .0) in
     let s = and-both (every (heldOk (c .deletions)) (c .held) && every deletionOk (c .deletions)) (leb (named c) 512) (r .1) in
     let e = and-both (every (heldOk (c .deletions)) (c .held)) (every deletionOk (c .deletions)) (s .0) in
-    record { held-ascends = a .0; deletions-ascend = a .1; held-fine = e .0; deletions-fine = e .1; few-named = leb-true (named c) 512 (s .1) }
+    let k = and-both (ascends linkKey 0 (c .links)) (every linkOk (c .links) && leb (length (c .links)) 64) (p .1) in
+    let m = and-both (every linkOk (c .links)) (leb (length (c .links)) 64) (k .1) in
+    record {
+      held-ascends = a .0;
+      deletions-ascend = a .1;
+      held-fine = e .0;
+      deletions-fine = e .1;
+      few-named = leb-true (named c) 512 (s .1);
+      links-ascend = k .0;
+      links-fine = m .0;
+      few-links = leb-true (length (c .links)) 64 (m .1);
+    }
 
 pub tests-good : (c : Catalogue) → Tests c → good c ≡ true
-unfolding good
-tests-good c t = simp (t .held-ascends, t .deletions-ascend, t .held-fine, t .deletions-fine, le-leb (named c) 512 (t .few-named))
+unfolding good goodPairs goodLinks
+tests-good c t =
+    simp (t .held-ascends, t .deletions-ascend, t .held-fine, t .deletions-fine, le-leb (named c) 512 (t .few-named), t .links-ascend, t .links-fine, le-leb (length (c .links)) 64 (t .few-links))
 
 pub good-of : (c : Catalogue) → good c ≡ true → Good c
 good-of c g =
@@ -91,6 +112,9 @@ good-of c g =
           held-ok-parts (c .deletions) h k (find-key key (c .held) k h q) (every-find (heldOk (c .deletions)) key (c .held) k h (t .held-fine) q);
       deletion-fine = λ (k : ℕ) (d : List ℕ) (q : find deletionKey k (c .deletions) ≡ some d). every-find deletionOk deletionKey (c .deletions) k d (t .deletions-fine) q;
       few = t .few-named;
+      link-ascends = asc-of linkKey 0 (c .links) (t .links-ascend);
+      link-fine = λ (k : ℕ) (e : List ℕ) (q : find linkKey k (c .links) ≡ some e). every-find linkOk linkKey (c .links) k e (t .links-fine) q;
+      few-links = t .few-links;
     }
 
 -- ---- a catalogue in order
@@ -106,6 +130,9 @@ module _ (c : Catalogue) (G : Good c) where
   deletion-at : (d : List ℕ) → List·Memᴰ d (c .deletions) → deletionOk d ≡ true
   deletion-at d m = G .deletion-fine (deletionKey d) d (found-self deletionKey (c .deletions) 0 d (G .deletion-ascends) m .1)
 
+  link-at : (e : List ℕ) → List·Memᴰ e (c .links) → linkOk e ≡ true
+  link-at e m = G .link-fine (linkKey e) e (found-self linkKey (c .links) 0 e (G .link-ascends) m .1)
+
   pub good-back : good c ≡ true
   good-back =
       tests-good c (record {
@@ -114,6 +141,9 @@ module _ (c : Catalogue) (G : Good c) where
         held-fine = every-true (heldOk (c .deletions)) (c .held) (λ (h : List ℕ) (m : List·Memᴰ h (c .held)). let w = held-at h m in held-ok-join (c .deletions) h (w .0) (w .1));
         deletions-fine = every-true deletionOk (c .deletions) deletion-at;
         few-named = G .few;
+        links-ascend = ascends-true linkKey 0 (c .links) (G .link-ascends);
+        links-fine = every-true linkOk (c .links) link-at;
+        few-links = G .few-links;
       })
 
   held-few : length (c .held) ≤ named c
@@ -130,7 +160,10 @@ module _ (c : Catalogue) (G : Good c) where
   unfolding named
   good-fits = (
     (wide 80 (c .held) (λ (h : List ℕ) (m : List·Memᴰ h (c .held)). event-length h (held-at h m .0)), omega (arith, held-few, G .few)),
-    ((wide 11 (c .deletions) (λ (d : List ℕ) (m : List·Memᴰ d (c .deletions)). deletion-wide d (deletion-at d m)), omega (arith, G .few)), tt),
+    (
+      (wide 11 (c .deletions) (λ (d : List ℕ) (m : List·Memᴰ d (c .deletions)). deletion-wide d (deletion-at d m)), omega (arith, G .few)),
+      ((wide 256 (c .links) (λ (e : List ℕ) (m : List·Memᴰ e (c .links)). ok-wide e (link-at e m)), G .few-links), tt),
+    ),
   )
 
 pub empty-good : Good empty
@@ -141,4 +174,7 @@ empty-good = record {
   held-fine = λ (k : ℕ) (h : List ℕ) (e : find key k [] ≡ some h). let z : _≡_ {A = ℕ} 0 1 = cc in absurd (omega arith);
   deletion-fine = λ (k : ℕ) (d : List ℕ) (e : find deletionKey k [] ≡ some d). let z : _≡_ {A = ℕ} 0 1 = cc in absurd (omega arith);
   few = omega arith;
+  link-ascends = tt;
+  link-fine = λ (k : ℕ) (e : List ℕ) (q : find linkKey k [] ≡ some e). let z : _≡_ {A = ℕ} 0 1 = cc in absurd (omega arith);
+  few-links = omega arith;
 }

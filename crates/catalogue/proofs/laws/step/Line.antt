@@ -12,11 +12,12 @@ use Rattle.columns.specs.Answer.{pick, Answer, ok, refusal}
 use Rattle.columns.specs.Bytes.{inside, barred}
 use Rattle.columns.proofs.laws.Clear.{Clear, clear-take, clear-drop, clear-append, clear-none, none-clear}
 use Rattle.formats.specs.Cube.{Message, readLine}
-use Rattle.formats.specs.Record.{wordOf}
 use Rattle.formats.proofs.laws.CubeFields.{line-fields}
-use Rattle.formats.proofs.laws.Words.{word-inj, clear-bytes}
-use Rattle.catalogue.specs.Line.{event, delete, blank, refused, kindOf, kind, Acceptable, pair, version, key, deletion, deletionKey, deletionVersion}
+use Rattle.formats.proofs.laws.Words.{clear-bytes}
+use Rattle.catalogue.specs.Line.{event, delete, blank, refused, kindOf, kind, Acceptable, pair, version, keyOf, key, deletion, deletionKey, deletionVersion}
 use Rattle.catalogue.specs.Good.{deletionOk}
+use Rattle.catalogue.proofs.laws.section.Types.{key-parts}
+use Rattle.columns.proofs.laws.Clear as clear
 use Rattle.formats.specs.Cube as cube
 
 -- ---- an acceptable line
@@ -34,7 +35,7 @@ clear-part bars k m n l h c =
     subst (Clear bars) (drop-append-seam (take k l) (take m (drop k l))) (clear-drop (length (take k l)) (take k l ++ take m (drop k l)) b)
 
 module _ (l : List ℕ) (w : Whole l) where
-  pair-clear : Clear true (pair l)
+  pub pair-clear : Clear true (pair l)
   unfolding pair
   pair-clear =
       clear-append (subst (λ (s : List ℕ). Clear true (take 2 s)) (drop-drop 8 2 l) (clear-part true 8 2 11 (drop 2 l) (omega arith) (w .clear)))
@@ -73,6 +74,7 @@ event-length l h = by-read (readLine l) refl h
     by-read : (a : Answer Message) → readLine l ≡ a → kindOf a ≡ event → length l ≡ 80
     by-read (ok (cube.event ns t)) e k = line-fields l (cube.event ns t) e .shape
     by-read (ok (cube.delete names t)) e k = absurd (blank-or-delete (eqb (getD names 10 0) 32) k)
+    by-read (ok (cube.link names ty ad tx)) e k = let z : _≡_ {A = ℕ} 0 1 = cc in absurd (omega arith)
     by-read (refusal n j) e k = let z : _≡_ {A = ℕ} 0 1 = cc in absurd (omega arith)
 
 pub event-ok : (l : List ℕ) → kind l ≡ event → Acceptable l
@@ -93,7 +95,7 @@ pair-length l h = simp (length-append, length-take, length-drop) (omega arith)
 module _ (l : List ℕ) (v : ℕ) (long : 13 ≤ length l) where
   pub deletion-key : deletionKey (deletion l v) ≡ key l
   unfolding deletion deletionKey key
-  deletion-key = ap (wordOf 0) (take-at (pair l) (v ∷ []) 10 (pair-length l long))
+  deletion-key = ap (λ (p : List ℕ). keyOf p []) (take-at (pair l) (v ∷ []) 10 (pair-length l long))
 
   pub deletion-version : deletionVersion (deletion l v) ≡ v
   unfolding deletion deletionVersion
@@ -124,7 +126,7 @@ module _ (l m : List ℕ) (a : Acceptable l) (b : Acceptable m) where
   key-inj e =
       let u = whole l a in
       let w = whole m b in
-      word-inj (pair l) (pair m) 0 0 (pair-length l (u .long) ∙ sym (pair-length m (w .long))) (clear-bytes (pair-clear l u)) (clear-bytes (pair-clear m w)) e .1
+      key-parts (pair l) (pair m) [] [] (pair-length l (u .long) ∙ sym (pair-length m (w .long))) (omega arith) (omega arith) (clear-bytes (pair-clear l u)) (clear-bytes (pair-clear m w)) clear.none clear.none e .0
 
   pub deletion-eq : (v : ℕ) → key l ≡ key m → deletion l v ≡ deletion m v
   unfolding deletion

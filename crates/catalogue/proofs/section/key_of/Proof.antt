@@ -25,7 +25,7 @@ add-key-at-2 c = omega (arith, fits (c .before .before), c .before .before .befo
 key-at-requires : tie.Need-key-at-requires
 key-at-requires c κs =
     let i = c .before .before .before .before .pre .0 in
-    (omega (arith, fits (c .before .before), i .source), omega (arith, fits (c .before .before), i .identifier))
+    (omega (arith, fits (c .before .before), i .source), omega (arith, fits (c .before .before), i .identifier), λ t. omega (arith, fits (c .before .before), i .type t))
 
 returns : tie.Need-returns
 returns c =

@@ -25,6 +25,9 @@ enum-told-4 c = search needs
 one-more-requires-3 : tie.Need-one-more-requires-3
 one-more-requires-3 c κs = search needs
 
+enum-told-5 : tie.Need-enum-told-5
+enum-told-5 c = search needs
+
 returns : tie.Need-returns
 returns c = search needs
 
@@ -37,6 +40,9 @@ returns-3 c = rw (c .before .enum-told3 .given .1) (c .one-more2 .ensures)
 returns-4 : tie.Need-returns-4
 returns-4 c = rw (c .before .enum-told4 .given .1) (c .one-more3 .ensures)
 
+returns-5 : tie.Need-returns-5
+returns-5 c = search needs
+
 pub named-after-spec : {M : Type 1} → statement M
 named-after-spec =
     tie.close
@@ -48,7 +54,9 @@ named-after-spec =
     one-more-requires-2
     enum-told-4
     one-more-requires-3
+    enum-told-5
     returns
     returns-2
     returns-3
-    returns-4)
+    returns-4
+    returns-5)

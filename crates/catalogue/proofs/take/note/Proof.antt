@@ -7,10 +7,10 @@ use mathlib.Core.Path.{_∙_}
 use Rattle.catalogue.proofs.laws.room.Places.{used-fits}
 use Rattle.catalogue.proofs.laws.room.Carry.{note-asks, note-put}
 
-end-of-requires : tie.Need-end-of-requires
-end-of-requires c κs =
+used-in-requires : tie.Need-used-in-requires
+used-in-requires c κs =
     let d = c .before .before .before in
-    rw (d .pre .1) (omega (arith, used-fits (d .args .room .now) (d .pre .0), d .pre .0 .long))
+    (d .pre .0, d .pre .1)
 
 deletion-requires : tie.Need-deletion-requires
 deletion-requires c κs = c .before .before .before .before .pre .2 .long
@@ -21,7 +21,7 @@ slice-aggregate-put c = search needs
 put-requires : tie.Need-put-requires
 put-requires c κs =
     let d = c .before .before .before .before .before .before .before in
-    note-asks (d .pre .0) (d .pre .2) (d .pre .1) (c .before .before .before .end-of .ensures) (c .before .before .deletion .ensures)
+    note-asks (d .pre .0) (d .pre .2) (d .pre .1) (c .before .before .before .used-in .ensures) (c .before .before .deletion .ensures)
 
 same-length : tie.Need-same-length
 same-length c = search needs
@@ -29,13 +29,13 @@ same-length c = search needs
 returns : tie.Need-returns
 returns c =
     let d = c .before .before .before .before .before .before .before .before .before .before in
-    c .before .before .put .ensures ∙ note-put (d .pre .0) (d .pre .2) (d .pre .1) (c .before .before .before .before .before .before .end-of .ensures) (c .before .before .before .before .before .deletion .ensures)
+    c .before .before .put .ensures ∙ note-put (d .pre .0) (d .pre .2) (d .pre .1) (c .before .before .before .before .before .before .used-in .ensures) (c .before .before .before .before .before .deletion .ensures)
 
 pub note-spec : {M : Type 1} → statement M
 note-spec =
     tie.close
     (tie.spec
-    end-of-requires
+    used-in-requires
     deletion-requires
     slice-aggregate-put
     put-requires

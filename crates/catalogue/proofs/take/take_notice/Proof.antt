@@ -10,7 +10,7 @@ use Rattle.catalogue.specs.Room.{contents}
 use Prim.Native.Nat.{ℕ}
 use Rattle.catalogue.specs.Entries.{entriesOf}
 use Rattle.catalogue.proofs.laws.step.Line.{whole}
-use Rattle.catalogue.proofs.laws.room.Found.{notice-ok, known-placed}
+use Rattle.catalogue.proofs.laws.room.Found.{notice-ok, known-placed, notice-apart}
 use Rattle.catalogue.proofs.laws.room.Took.{few-named, decided, took}
 
 -- the line is acceptable, and the code's deed is the definition's
@@ -36,7 +36,8 @@ limited-requires c κs = search needs
 
 carry-out-requires : tie.Need-carry-out-requires
 carry-out-requires c κs =
-    (c .before .before .before .before .before .before .before .before .pre .0, c .before .before .before .before .look-both .ensures, deed (c .before))
+    let d = c .before .before .before .before .before .before .before .before in
+    (d .pre .0, c .before .before .before .before .look-both .ensures, deed (c .before), notice-apart (d .args .line .now) (d .args .notice) (d .pre .2))
 
 answer-of-requires : tie.Need-answer-of-requires
 answer-of-requires c κs = search needs

@@ -1,4 +1,4 @@
--- A record that is there is a notice; a refusal passes up.
+-- A record that is there is a link or a notice; a refusal passes up.
 use borrow.Author.Needs.{needs}
 use native.Mathlib.Omega.{arith}
 use Rattle.catalogue.proofs.take.take_ordered.Statement.{statement}
@@ -10,14 +10,14 @@ use Rattle.formats.proofs.laws.CubeRecord.{was-refused}
 use Rattle.catalogue.specs.Findings.{noticeKind, noticeOf, refusedCall}
 use Rattle.catalogue.proofs.laws.step.Line.{whole}
 use Rattle.catalogue.proofs.laws.room.Found.{notice-ok}
-use Rattle.catalogue.proofs.laws.room.Took.{there-kind, took-refused}
+use Rattle.catalogue.proofs.laws.room.Took.{there-link, there-kind, took-refused}
 
--- what is there is a notice
-is-notice : (c : tie.After-read) → let l = c .before .before .before .before .before .args .line .now in kind l ≡ noticeKind (noticeOf (c .read .given .0 .0) (getD l 12 0))
+-- what is there and no link is a notice
+is-notice : (c : tie.Else1) → let l = c .before .before .before .before .before .before .before .args .line .now in kind l ≡ noticeKind (noticeOf (c .before .before .read .given .0 .0) (getD l 12 0))
 is-notice c =
-    let l = c .before .before .read-line in
-    let g = c .read .given in
-    there-kind (c .before .before .before .before .before .args .line .now) (l .result) (l .ensures) (g .0 .0) (g .0 .1 .0) (g .1)
+    let l = c .before .before .before .before .read-line in
+    let g = c .before .before .read .given in
+    there-kind (c .before .before .before .before .before .before .before .args .line .now) (l .result) (l .ensures) (g .0 .0) (g .0 .1 .0) (g .0 .1 .1 .0) (g .0 .1 .1 .1 .0) (g .1) (c .if1 .left)
 
 read-line-requires : tie.Need-read-line-requires
 read-line-requires c κs = search needs
@@ -38,25 +38,38 @@ returns c =
     let l = c .before .before .before .read-line in
     took-refused (d .pre .0) (d .args .line .now) (was-refused _ (l .result) (g .0 .0) (g .0 .1 .0) (l .ensures) (g .1)) (d .pre .1) _ (c .refused .ensures ∙ ap refusedCall (g .1)) refl
 
+take-link-requires : tie.Need-take-link-requires
+take-link-requires c κs =
+    let d = c .before .before .before .before .before .before .before .before in
+    let l = c .before .before .before .before .before .read-line in
+    let g = c .before .before .before .read .given in
+    (d .pre .0, d .pre .1, there-link (d .args .line .now) (l .result) (l .ensures) (g .0 .0) (g .0 .1 .0) (g .0 .1 .1 .0) (g .0 .1 .1 .1 .0) (g .1) (c .before .if1 .taken))
+
+same-length : tie.Need-same-length
+same-length c = search needs
+
+returns-2 : tie.Need-returns-2
+returns-2 c = c .before .before .take-link .ensures
+
 shared-slice-read-notice-of : tie.Need-shared-slice-read-notice-of
 shared-slice-read-notice-of c =
-    let l = c .before .before .before .before .before .before .before .before .args .line .now in
-    let r = c .before .before .before in
-    omega (arith, whole l (notice-ok l (noticeOf (r .read .given .0 .0) (getD l 12 0)) (is-notice r)) .long)
+    let l = c .before .before .before .before .before .before .before .before .before .args .line .now in
+    let e = c .before .before in
+    omega (arith, whole l (notice-ok l (noticeOf (e .before .before .read .given .0 .0) (getD l 12 0)) (is-notice e)) .long)
 
 notice-of-requires : tie.Need-notice-of-requires
 notice-of-requires c κs = search needs
 
 take-notice-requires : tie.Need-take-notice-requires
 take-notice-requires c κs =
-    let d = c .before .before .before .before .before .before .before .before .before in
-    (d .pre .0, d .pre .1, rw (c .notice-of .ensures) (is-notice (c .before .before .before .before)))
+    let d = c .before .before .before .before .before .before .before .before .before .before in
+    (d .pre .0, d .pre .1, rw (c .notice-of .ensures) (is-notice (c .before .before .before)))
 
-same-length : tie.Need-same-length
-same-length c = search needs
+same-length-2 : tie.Need-same-length-2
+same-length-2 c = search needs
 
-returns-2 : tie.Need-returns-2
-returns-2 c = c .before .before .take-notice .ensures
+returns-3 : tie.Need-returns-3
+returns-3 c = c .before .before .take-notice .ensures
 
 pub take-ordered-spec : {M : Type 1} → statement M
 take-ordered-spec =
@@ -67,8 +80,11 @@ take-ordered-spec =
     enum-told
     refused-requires
     returns
+    take-link-requires
+    same-length
+    returns-2
     shared-slice-read-notice-of
     notice-of-requires
     take-notice-requires
-    same-length
-    returns-2)
+    same-length-2
+    returns-3)

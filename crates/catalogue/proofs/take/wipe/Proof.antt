@@ -13,7 +13,7 @@ rest : (c : tie.After-take-out) → let a = c .before .before .before .before .b
     Between (a .room .now) (a .line .now) (a .v) (a .f .in_deletions) (c .take-out .last .0)
 rest c =
     let d = c .before .before .before .before .before .before .before .before .before .before .before in
-    between (d .pre .0) (d .pre .1) (d .pre .2) (c .before .before .before .before .before .in-held .given .1) (c .before .before .end-of .ensures) (c .take-out .ensures)
+    between (d .pre .0) (d .pre .1) (d .pre .2) (c .before .before .before .before .before .in-held .given .1) (c .before .before .used-in .ensures) (c .take-out .ensures)
 
 enum-known-in-held : tie.Need-enum-known-in-held
 enum-known-in-held c = search needs
@@ -26,15 +26,15 @@ returns c =
     let d = c .before .before .before .before .before .before in
     absurd (wipe-found (d .pre .0) (d .pre .1) (d .pre .2) (c .enum-told .given .1))
 
-end-of-requires : tie.Need-end-of-requires
-end-of-requires c κs =
+used-in-requires : tie.Need-used-in-requires
+used-in-requires c κs =
     let d = c .before .before .before .before .before .before .before .before in
-    rw (d .pre .1 .deletions-are) (omega (arith, used-fits (d .args .room .now) (d .pre .0), d .pre .0 .long))
+    (d .pre .0, d .pre .1 .deletions-are)
 
 take-out-requires : tie.Need-take-out-requires
 take-out-requires c κs =
     let d = c .before .before .before .before .before .before .before .before .before .before in
-    wipe-asks (d .pre .0) (d .pre .1) (d .pre .2) (c .before .before .before .before .in-held .given .1) (c .before .end-of .ensures)
+    wipe-asks (d .pre .0) (d .pre .1) (d .pre .2) (c .before .before .before .before .in-held .given .1) (c .before .used-in .ensures)
 
 held-in-requires : tie.Need-held-in-requires
 held-in-requires c κs = long-enough _ (rest (c .before .before .before) .ordered) .0
@@ -61,7 +61,7 @@ wipe-spec =
     enum-known-in-held
     enum-told
     returns
-    end-of-requires
+    used-in-requires
     take-out-requires
     held-in-requires
     deletions-in-requires

@@ -1,48 +1,50 @@
-use Rattle.columns.proofs.laws.Places.{chars-placed}
-use Rattle.formats.proofs.laws.CubeRecord.{delete-filled}
-use Prim.Native.Nat.{_+_}
-use lib.ListN.{length, set, replicate}
-use mathlib.Core.Path.{refl, _∙_}
+use mathlib.Core.Path.{_≡_, ap, _∙_}
+use mathlib.Core.List.{_∷_}
+use Prim.Native.Nat.{ℕ, _+_, _-_}
 use native.Mathlib.Omega.{arith}
+use lib.ListN.{take}
+use Rattle.formats.specs.Cube.{deleteKind}
+use Rattle.formats.specs.CubeRecord.{filled}
 use borrow.Author.Needs.{needs}
 use Rattle.formats.proofs.cube_record.delete_bytes.Statement.{statement}
 use Rattle.formats.proofs.cube_record.delete_bytes.Tie as tie
 
-array-write-bytes : tie.Need-array-write-bytes
-array-write-bytes c = search needs
-
-array-write-bytes-2 : tie.Need-array-write-bytes-2
-array-write-bytes-2 c = search needs
-
 add-end : tie.Need-add-end
 add-end c = search needs
 
-sub-copy : tie.Need-sub-copy
-sub-copy c = search needs
+cast-t5 : tie.Need-cast-t5
+cast-t5 c = search needs
 
-part-bytes-start : tie.Need-part-bytes-start
-part-bytes-start c = search needs
+slice-aggregate-text-bytes : tie.Need-slice-aggregate-text-bytes
+slice-aggregate-text-bytes c = search needs
 
-part-bytes-end : tie.Need-part-bytes-end
-part-bytes-end c = search needs
+sub-text-bytes : tie.Need-sub-text-bytes
+sub-text-bytes c = search needs
 
-copy-requires : tie.Need-copy-requires
-copy-requires c κs = search needs
+part-text-bytes-start : tie.Need-part-text-bytes-start
+part-text-bytes-start c = search needs
+
+part-text-bytes-end : tie.Need-part-text-bytes-end
+part-text-bytes-end c = search needs
+
+text-bytes-requires : tie.Need-text-bytes-requires
+text-bytes-requires c κs = search needs
 
 returns : tie.Need-returns
 returns c =
     let a = c .before .before .before .before .args in
-    chars-placed 2 (2 + length (a .chars .now)) (a .chars .now) (set (set (replicate 268 0) 0 2) 1 (a .len)) _ refl (omega (arith, c .before .before .before .before .pre)) (c .before .copy .ensures) ∙ delete-filled (a .len) (a .chars .now) (c .before .before .before .before .pre)
+    let z : 11 + a .len - 0 ≡ 11 + a .len = omega arith in
+    c .text-bytes .ensures ∙ ap (λ (k : ℕ). filled (deleteKind ∷ a .len ∷ take k (a .chars .now))) z
 
 pub delete-bytes-spec : {M : Type 1} → statement M
 delete-bytes-spec =
     tie.close
     (tie.spec
-    array-write-bytes
-    array-write-bytes-2
     add-end
-    sub-copy
-    part-bytes-start
-    part-bytes-end
-    copy-requires
+    cast-t5
+    slice-aggregate-text-bytes
+    sub-text-bytes
+    part-text-bytes-start
+    part-text-bytes-end
+    text-bytes-requires
     returns)

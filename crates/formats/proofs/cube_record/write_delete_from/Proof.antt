@@ -6,17 +6,20 @@ use Rattle.formats.proofs.cube_record.write_delete_from.Tie as tie
 add-end : tie.Need-add-end
 add-end c = search needs
 
-sub-delete-bytes : tie.Need-sub-delete-bytes
-sub-delete-bytes c = search needs
+slice-aggregate-text-bytes : tie.Need-slice-aggregate-text-bytes
+slice-aggregate-text-bytes c = search needs
 
-part-delete-bytes-start : tie.Need-part-delete-bytes-start
-part-delete-bytes-start c = search needs
+sub-text-bytes : tie.Need-sub-text-bytes
+sub-text-bytes c = search needs
 
-part-delete-bytes-end : tie.Need-part-delete-bytes-end
-part-delete-bytes-end c = search needs
+part-text-bytes-start : tie.Need-part-text-bytes-start
+part-text-bytes-start c = search needs
 
-delete-bytes-requires : tie.Need-delete-bytes-requires
-delete-bytes-requires c κs = search needs
+part-text-bytes-end : tie.Need-part-text-bytes-end
+part-text-bytes-end c = search needs
+
+text-bytes-requires : tie.Need-text-bytes-requires
+text-bytes-requires c κs = search needs
 
 slice-aggregate-same : tie.Need-slice-aggregate-same
 slice-aggregate-same c = search needs
@@ -59,23 +62,27 @@ same-length c = search needs
 
 returns : tie.Need-returns
 returns c =
-    let a = c .before .before .before .before .before .before .before .before .before .before .before .before .before .before .before .before .before .before .args in
-    replied-is _ _ _ _ _ (c .reply-of .ensures) (delete-reply (a .from .now) (c .before .before .before .before .before .before .before .before .before .before .before .before .before .before .before .before .before .before .pre .0) (c .before .before .before .before .before .before .before .before .before .before .before .before .before .before .before .before .before .before .pre .1 .0) (a .len) (c .before .before .before .before .before .before .before .before .before .before .before .before .before .before .before .before .before .before .pre .1 .1) (search needs) (a .out .now) _ (c .before .before .before .before .before .before .before .before .before .before .before .before .before .before .delete-bytes .ensures) _ (c .before .before .before .before .before .before .before .before .before .before .before .before .same .ensures) (c .before .before .before .before .before .before .before .before .before .before .before .if1 .taken) _ (c .before .before .before .before .before .before .before .before .copy .ensures) _ _ (c .before .before .before .write-delete .ensures))
+    let a = c .before .before .before .before .before .before .before .before .before .before .before .before .before .before .before .before .before .before .before .args in
+    let p = c .before .before .before .before .before .before .before .before .before .before .before .before .before .before .before .before .before .before .before .pre in
+    replied-is _ _ _ _ _ (c .reply-of .ensures)
+    (delete-reply (a .from .now) (p .0) (p .1 .0) (p .1 .1 .0) (a .len) (p .1 .1 .1) (search needs) (a .out .now) _ (c .before .before .before .before .before .before .before .before .before .before .before .before .before .before .text-bytes .ensures) _ (c .before .before .before .before .before .before .before .before .before .before .before .before .same .ensures) (c .before .before .before .before .before .before .before .before .before .before .before .if1 .taken) _ (c .before .before .before .before .before .before .before .before .copy .ensures) _ _ (c .before .before .before .write-delete .ensures))
 
 returns-2 : tie.Need-returns-2
 returns-2 c =
-    let a = c .before .before .before .before .before .before .before .args in
-    no-delete (a .from .now) (c .before .before .before .before .before .before .before .pre .0) (c .before .before .before .before .before .before .before .pre .1 .0) (a .len) (c .before .before .before .before .before .before .before .pre .1 .1) (search needs) (a .out .now) _ (c .before .before .before .delete-bytes .ensures) _ (c .before .same .ensures) (c .if1 .left)
+    let a = c .before .before .before .before .before .before .before .before .args in
+    let p = c .before .before .before .before .before .before .before .before .pre in
+    no-delete (a .from .now) (p .0) (p .1 .0) (p .1 .1 .0) (a .len) (p .1 .1 .1) (search needs) (a .out .now) _ (c .before .before .before .text-bytes .ensures) _ (c .before .same .ensures) (c .if1 .left)
 
 pub write-delete-from-spec : {M : Type 1} → statement M
 write-delete-from-spec =
     tie.close
     (tie.spec
     add-end
-    sub-delete-bytes
-    part-delete-bytes-start
-    part-delete-bytes-end
-    delete-bytes-requires
+    slice-aggregate-text-bytes
+    sub-text-bytes
+    part-text-bytes-start
+    part-text-bytes-end
+    text-bytes-requires
     slice-aggregate-same
     same-requires
     slice-aggregate-copy

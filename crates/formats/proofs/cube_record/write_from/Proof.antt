@@ -1,15 +1,17 @@
-use lib.Seq.{getD-take}
 use mathlib.Core.Path.{sym, _∙_}
 use native.Mathlib.Omega.{arith}
+use lib.ListN.{length}
+use lib.Seq.{getD-take}
 use Rattle.columns.specs.Answer.{badForm}
 use Rattle.formats.proofs.laws.CubeRecord.{replied-refused, replied-as, from-short, from-first}
-use lib.ListN.{length}
 use borrow.Author.Needs.{needs}
 use Rattle.formats.proofs.cube_record.write_from.Statement.{statement}
 use Rattle.formats.proofs.cube_record.write_from.Tie as tie
 
 returns : tie.Need-returns
-returns c = replied-refused _ (c .before .before .before .args .out .now) badForm 0 (from-short (c .before .before .before .args .from .now) (length (c .before .before .before .args .out .now)) (c .if1 .taken))
+returns c =
+    let a = c .before .before .before .args in
+    replied-refused _ (a .out .now) badForm 0 (from-short (a .from .now) (length (a .out .now)) (c .if1 .taken))
 
 shared-slice-read-if2 : tie.Need-shared-slice-read-if2
 shared-slice-read-if2 c = search needs
@@ -34,8 +36,39 @@ returns-2 c =
     let a = c .before .before .before .before .before .before .before .before .before .before .args in
     replied-as _ _ _ _ _ (from-first (a .from .now) (length (a .out .now)) (c .before .before .before .before .before .before .before .if1 .left)) (c .before .before .write-event-from .ensures)
 
-shared-slice-read-len : tie.Need-shared-slice-read-len
-shared-slice-read-len c = search needs
+shared-slice-read-first : tie.Need-shared-slice-read-first
+shared-slice-read-first c = search needs
+
+shared-slice-read-if3 : tie.Need-shared-slice-read-if3
+shared-slice-read-if3 c = search needs
+
+shared-slice-read-second : tie.Need-shared-slice-read-second
+shared-slice-read-second c = search needs
+
+shared-slice-read-third : tie.Need-shared-slice-read-third
+shared-slice-read-third c = search needs
+
+sub-write-link-from : tie.Need-sub-write-link-from
+sub-write-link-from c = search needs
+
+part-write-link-from-start : tie.Need-part-write-link-from-start
+part-write-link-from-start c = search needs
+
+part-write-link-from-end : tie.Need-part-write-link-from-end
+part-write-link-from-end c = search needs
+
+write-link-from-requires : tie.Need-write-link-from-requires
+write-link-from-requires c κs =
+    let r = c .before .before .before .before .before .before .before .before .before .before .before .before .args .from .now in
+    (search needs, (getD-take 268 r 0 0 (omega arith) ∙ c .before .before .before .before .if3 .taken, (getD-take 268 r 1 0 (omega arith), (getD-take 268 r 2 0 (omega arith), getD-take 268 r 3 0 (omega arith)))))
+
+same-length-2 : tie.Need-same-length-2
+same-length-2 c = search needs
+
+returns-3 : tie.Need-returns-3
+returns-3 c =
+    let a = c .before .before .before .before .before .before .before .before .before .before .before .before .before .before .before .args in
+    replied-as _ _ _ _ _ (from-first (a .from .now) (length (a .out .now)) (c .before .before .before .before .before .before .before .before .before .before .before .before .if1 .left)) (c .before .before .write-link-from .ensures)
 
 sub-write-delete-from : tie.Need-sub-write-delete-from
 sub-write-delete-from c = search needs
@@ -48,16 +81,17 @@ part-write-delete-from-end c = search needs
 
 write-delete-from-requires : tie.Need-write-delete-from-requires
 write-delete-from-requires c κs =
-    let r = c .before .before .before .before .before .before .before .before .args .from .now in
-    (search needs, ((λ q. c .before .before .before .if2 .left (sym (getD-take 268 (c .before .before .before .before .before .before .before .before .args .from .now) 0 0 (omega arith)) ∙ q)), getD-take 268 (c .before .before .before .before .before .before .before .before .args .from .now) 1 0 (omega arith)))
+    let r = c .before .before .before .before .before .before .before .before .before .before .args .from .now in
+    let e = getD-take 268 r 0 0 (omega arith) in
+    (search needs, ((λ q. c .before .before .before .before .before .if2 .left (sym e ∙ q)), ((λ q. c .before .before .if3 .left (sym e ∙ q)), getD-take 268 r 1 0 (omega arith))))
 
-same-length-2 : tie.Need-same-length-2
-same-length-2 c = search needs
+same-length-3 : tie.Need-same-length-3
+same-length-3 c = search needs
 
-returns-3 : tie.Need-returns-3
-returns-3 c =
-    let a = c .before .before .before .before .before .before .before .before .before .before .before .args in
-    replied-as _ _ _ _ _ (from-first (a .from .now) (length (a .out .now)) (c .before .before .before .before .before .before .before .before .if1 .left)) (c .before .before .write-delete-from .ensures)
+returns-4 : tie.Need-returns-4
+returns-4 c =
+    let a = c .before .before .before .before .before .before .before .before .before .before .before .before .before .args in
+    replied-as _ _ _ _ _ (from-first (a .from .now) (length (a .out .now)) (c .before .before .before .before .before .before .before .before .before .before .if1 .left)) (c .before .before .write-delete-from .ensures)
 
 pub write-from-spec : {M : Type 1} → statement M
 write-from-spec =
@@ -71,10 +105,19 @@ write-from-spec =
     write-event-from-requires
     same-length
     returns-2
-    shared-slice-read-len
+    shared-slice-read-first
+    shared-slice-read-if3
+    shared-slice-read-second
+    shared-slice-read-third
+    sub-write-link-from
+    part-write-link-from-start
+    part-write-link-from-end
+    write-link-from-requires
+    same-length-2
+    returns-3
     sub-write-delete-from
     part-write-delete-from-start
     part-write-delete-from-end
     write-delete-from-requires
-    same-length-2
-    returns-3)
+    same-length-3
+    returns-4)

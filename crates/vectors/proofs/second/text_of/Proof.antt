@@ -6,7 +6,7 @@ use Rattle.vectors.proofs.second.text_of.Statement.{statement}
 use Rattle.vectors.proofs.second.text_of.Tie as tie
 
 abbrev Inv-loop : tie.InvT-loop
-Inv-loop s text₀ i₀ text i = (i ≤ length s) × (length text ≡ 78)
+Inv-loop s text₀ i₀ text i = (i ≤ length s) × (length text ≡ 250)
 
 abbrev μ-loop : tie.MeasureT-loop
 μ-loop s text₀ i₀ text i = length s - i

@@ -1,0 +1,36 @@
+use mathlib.Core.Path.{ap, _∙_}
+use lib.ListN.{length}
+use Rattle.columns.specs.Table.{placed}
+use Rattle.formats.proofs.laws.CubeRecord.{text-filled}
+use borrow.Author.Needs.{needs}
+use Rattle.formats.proofs.cube_record.text_bytes.Statement.{statement}
+use Rattle.formats.proofs.cube_record.text_bytes.Tie as tie
+
+slice-aggregate-copy-at : tie.Need-slice-aggregate-copy-at
+slice-aggregate-copy-at c = search needs
+
+copy-at-requires : tie.Need-copy-at-requires
+copy-at-requires c κs = search needs
+
+slice-aggregate-copy-at-2 : tie.Need-slice-aggregate-copy-at-2
+slice-aggregate-copy-at-2 c = search needs
+
+copy-at-requires-2 : tie.Need-copy-at-requires-2
+copy-at-requires-2 c κs = search needs
+
+returns : tie.Need-returns
+returns c =
+    let a = c .before .before .before .before .before .before .before .before .args in
+    c .before .copy-at2 .ensures
+    ∙ ap (placed (length (a .head .now)) (a .chars .now)) (c .before .before .before .before .copy-at .ensures)
+    ∙ text-filled (a .head .now) (a .chars .now) (c .before .before .before .before .before .before .before .before .pre)
+
+pub text-bytes-spec : {M : Type 1} → statement M
+text-bytes-spec =
+    tie.close
+    (tie.spec
+    slice-aggregate-copy-at
+    copy-at-requires
+    slice-aggregate-copy-at-2
+    copy-at-requires-2
+    returns)

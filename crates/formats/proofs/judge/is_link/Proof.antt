@@ -1,0 +1,26 @@
+use Rattle.formats.proofs.laws.Judge.{judged-link, judged-no-link}
+use borrow.Author.Needs.{needs}
+use Rattle.formats.proofs.judge.is_link.Statement.{statement}
+use Rattle.formats.proofs.judge.is_link.Tie as tie
+
+read-line-requires : tie.Need-read-line-requires
+read-line-requires c κs = search needs
+
+enum-known-read : tie.Need-enum-known-read
+enum-known-read c = search needs
+
+enum-told : tie.Need-enum-told
+enum-told c = search needs
+
+returns : tie.Need-returns
+returns c =
+    let g = c .before .before .before .read-line in
+    judged-link (c .before .before .before .before .before .args .line .now) (g .result) (g .ensures) _ _ _ _ (c .before .read .given .1)
+
+returns-2 : tie.Need-returns-2
+returns-2 c =
+    let g = c .before .before .read-line in
+    judged-no-link (c .before .before .before .before .args .line .now) (g .result) (g .ensures) _ _ (c .enum-told .given .1)
+
+pub is-link-spec : {M : Type 1} → statement M
+is-link-spec = tie.close (tie.spec read-line-requires enum-known-read enum-told returns returns-2)

@@ -1,0 +1,179 @@
+-- Each answer of an LI line, read and written, as the code comes to it, and the bytes that the code lays.
+use mathlib.Core.Path.{_≡_, refl, sym, ap, _∙_}
+use mathlib.Core.Bool.{Bool, true, false}
+use mathlib.Core.List.{List, [], _∷_, _++_, append-assoc}
+use Prim.Native.Nat.{ℕ, _+_, _-_, _≤_, _<_}
+use native.Mathlib.Omega.{arith}
+use lib.ListN.{length, take, drop, getD, set, replicate, length-append}
+use lib.IntN.{pos}
+use lib.Dec.{eqb}
+use lib.Seq.{take-at}
+use borrow.Author.Tests.{eq-eqb, ne-eqb, le-ltb, lt-ltb}
+use Rattle.columns.specs.Answer.{ok, refusal, barredByte, badForm, tooShort}
+use Rattle.columns.specs.Table.{over, placed}
+use Rattle.columns.proofs.laws.Tests.{and-false}
+use Rattle.formats.specs.Link.{word, typeOf, addressOf, textOf, formed}
+use Rattle.formats.specs.Cube.{link, linkKind, linkLine, linkBarred, linkParts, readLink, putLink, lineOf, writeMessage, wrongLength}
+use Rattle.formats.proofs.laws.Link.{address-none, text-none, no-address, no-text, type-end, type-part, address-end, address-part, text-part}
+use Rattle.formats.proofs.laws.Cube.{differs-not, differs-is}
+use Rattle.formats.proofs.laws.CubeWriting.{two-placed}
+use Rattle.formats.proofs.laws.Record.{part-over, set-over}
+use Rattle.formats.specs.declared.cube.Read.the-variants as R
+
+-- ---- read
+
+module _ (l : List ℕ) where
+  pub link-short : length l < 20 → readLink l ≡ refusal wrongLength 0
+  unfolding readLink
+  link-short h = rw (lt-ltb _ _ h)
+
+  module _ (h : 20 ≤ length l) where
+    pub link-long : 255 < length l → readLink l ≡ refusal wrongLength 0
+    unfolding readLink
+    link-long k = rw (le-ltb _ _ h, lt-ltb _ _ k)
+
+    module _ (k : length l ≤ 255) where
+      pub link-barred : (linkBarred l ≡ 0 → ⊥) → readLink l ≡ refusal barredByte (linkBarred l)
+      unfolding readLink
+      link-barred b = rw (le-ltb _ _ h, le-ltb _ _ k, differs-is (linkBarred l) 0 b)
+
+      pub link-clear : linkBarred l ≡ 0 → readLink l ≡ linkParts l
+      unfolding readLink
+      link-clear b = rw (le-ltb _ _ h, le-ltb _ _ k, differs-not (linkBarred l) 0 b)
+
+  pub parts-no-blank : (getD l 14 0 ≡ 32 → ⊥) → linkParts l ≡ refusal badForm 15
+  unfolding linkParts
+  parts-no-blank n = rw (ne-eqb (getD l 14 0) 32 n)
+
+  pub parts-malformed : formed (typeOf l) (addressOf l) (textOf l) ≡ false → linkParts l ≡ refusal badForm 15
+  unfolding linkParts
+  parts-malformed e = rw (e, and-false (eqb (getD l 14 0) 32))
+
+  pub parts-read : getD l 14 0 ≡ 32 → formed (typeOf l) (addressOf l) (textOf l) ≡ true → linkParts l ≡ ok (link (take 12 (drop 2 l)) (typeOf l) (addressOf l) (textOf l))
+  unfolding linkParts
+  parts-read b e = rw (eq-eqb (getD l 14 0) 32 b, e)
+
+  -- the places where the code saw type and address end
+  module _ (e : ℕ) (p : e ≡ 15 + length (word (drop 15 l))) where
+    pub parts-no-address : length l ≤ e → linkParts l ≡ refusal badForm 15
+    parts-no-address h =
+        let a : addressOf l ≡ [] = address-none l (omega (arith, type-end l e p)) in
+        parts-malformed (rw a (no-address (typeOf l) (textOf l)))
+
+    module _ (s : ℕ) (q : s ≡ e + 1 + length (word (drop (e + 1) l))) where
+      pub parts-no-text : length l ≤ s → linkParts l ≡ refusal badForm 15
+      parts-no-text h =
+          let a : textOf l ≡ [] = text-none l (omega (arith, address-end l e p s q)) in
+          parts-malformed (rw a (no-text (typeOf l) (addressOf l)))
+
+      pub parts-formed : {f : Bool} → f ≡ formed (take (e - 15) (drop 15 l)) (take (s - (e + 1)) (drop (e + 1) l)) (take (length l - (s + 1)) (drop (s + 1) l)) → formed (typeOf l) (addressOf l) (textOf l) ≡ f
+      parts-formed g = sym (g ∙ rw (type-part l e p, address-part l e p s q, text-part l e p s q))
+
+      pub link-is : (t : List ℕ) → t ≡ over (take 12 (drop 2 l) ++ (take (e - 15) (drop 15 l) ++ (take (s - (e + 1)) (drop (e + 1) l) ++ take (length l - (s + 1)) (drop (s + 1) l)))) (replicate 250 0)
+          → record { read = R.There linkKind (length (take (e - 15) (drop 15 l))) (length (take (s - (e + 1)) (drop (e + 1) l))) (length (take (length l - (s + 1)) (drop (s + 1) l))); flags = replicate 19 0; values = replicate 19 (pos 0); text = t } ≡ lineOf (ok (link (take 12 (drop 2 l)) (typeOf l) (addressOf l) (textOf l)))
+      link-is t f = rw (f, type-part l e p, address-part l e p s q, text-part l e p s q)
+
+-- ---- written
+
+pub link-size : (names ty ad tx : List ℕ) → length names ≡ 12 → length (linkLine names ty ad tx) ≡ 17 + length ty + length ad + length tx
+link-size names ty ad tx n =
+    omega (arith, length-append names (32 ∷ ty ++ (32 ∷ ad ++ (32 ∷ tx))), length-append ty (32 ∷ ad ++ (32 ∷ tx)), length-append ad (32 ∷ tx))
+
+module _ (names ty ad tx : List ℕ) (n : length names ≡ 12) (room : ℕ) where
+  abbrev line : List ℕ
+  line = linkLine names ty ad tx
+
+  abbrev size : ℕ
+  size = 17 + length ty + length ad + length tx
+
+  pub put-link-low : 17 + length ty + length ad + length tx < 20 → writeMessage (link names ty ad tx) room ≡ refusal wrongLength 0
+  unfolding writeMessage putLink
+  put-link-low h = rw (link-size names ty ad tx n, lt-ltb size 20 h)
+
+  pub put-link-long : 255 < 17 + length ty + length ad + length tx → writeMessage (link names ty ad tx) room ≡ refusal wrongLength 0
+  unfolding writeMessage putLink
+  put-link-long k = let h : 20 ≤ size = omega arith in rw (link-size names ty ad tx n, le-ltb size 20 h, lt-ltb 255 size k)
+
+  module _ (h : 20 ≤ 17 + length ty + length ad + length tx) (k : 17 + length ty + length ad + length tx ≤ 255) where
+    pub put-link-short : room < 17 + length ty + length ad + length tx → writeMessage (link names ty ad tx) room ≡ refusal tooShort 0
+    unfolding writeMessage putLink
+    put-link-short r = rw (link-size names ty ad tx n, le-ltb size 20 h, le-ltb 255 size k, lt-ltb room size r)
+
+    module _ (r : 17 + length ty + length ad + length tx ≤ room) where
+      pub put-link-barred : (x : ℕ) → x ≡ linkBarred (linkLine names ty ad tx) → (x ≡ 0 → ⊥) → writeMessage (link names ty ad tx) room ≡ refusal barredByte x
+      unfolding writeMessage putLink
+      put-link-barred x e b = rw (link-size names ty ad tx n, le-ltb size 20 h, le-ltb 255 size k, le-ltb room size r, ← e, differs-is x 0 b)
+
+      module _ (b : linkBarred (linkLine names ty ad tx) ≡ 0) where
+        pub put-link-malformed : formed ty ad tx ≡ false → writeMessage (link names ty ad tx) room ≡ refusal badForm 15
+        unfolding writeMessage putLink
+        put-link-malformed e = rw (link-size names ty ad tx n, le-ltb size 20 h, le-ltb 255 size k, le-ltb room size r, differs-not (linkBarred line) 0 b, e)
+
+        pub put-link : formed ty ad tx ≡ true → writeMessage (link names ty ad tx) room ≡ ok (linkLine names ty ad tx)
+        unfolding writeMessage putLink
+        put-link e = rw (link-size names ty ad tx n, le-ltb size 20 h, le-ltb 255 size k, le-ltb room size r, differs-not (linkBarred line) 0 b, e)
+
+-- ---- the bytes of a link, part after part
+
+module _ (names ty ad tx : List ℕ) where
+  pub text-laid : (l : List ℕ) → length names + length ty + length ad + length tx ≤ length l → placed (length names + length ty + length ad) tx (placed (length names + length ty) ad (placed (length names) ty (placed 0 names l))) ≡ over (names ++ (ty ++ (ad ++ tx))) l
+  text-laid l h =
+      let m : length (names ++ ty) ≡ length names + length ty = length-append names ty in
+      let k : length ((names ++ ty) ++ ad) ≡ length names + length ty + length ad = length-append (names ++ ty) ad ∙ omega arith in
+      let z : (((names ++ ty) ++ ad) ++ tx) ≡ names ++ (ty ++ (ad ++ tx)) = simp append-assoc in
+      let a = part-over names ty l (placed 0 names l) (length names) refl refl (omega arith) in
+      let b = part-over (names ++ ty) ad l _ (length names + length ty) a (sym m) (omega arith) in
+      part-over ((names ++ ty) ++ ad) tx l _ (length names + length ty + length ad) b (sym k) (omega arith)
+      ∙ ap (λ (x : List ℕ). over x l) z
+
+  module _ (n : length names ≡ 12) (h : 17 + length ty + length ad + length tx ≤ 255) where
+    abbrev typeEnd : ℕ
+    typeEnd = 15 + length ty
+
+    abbrev addressEnd : ℕ
+    addressEnd = 15 + length ty + 1 + length ad
+
+    abbrev zeros : List ℕ
+    zeros = replicate 255 0
+
+    abbrev headed : List ℕ
+    headed = (76 ∷ 73 ∷ names) ++ (32 ∷ [])
+
+    abbrev typed : List ℕ
+    typed = (headed ++ ty) ++ (32 ∷ [])
+
+    abbrev addressed : List ℕ
+    addressed = (typed ++ ad) ++ (32 ∷ [])
+
+    headed-size : length headed ≡ 15
+    headed-size = omega (arith, length-append names (32 ∷ []))
+
+    typed-size : length typed ≡ typeEnd + 1
+    typed-size = length-append (headed ++ ty) (32 ∷ []) ∙ omega (arith, length-append headed ty, headed-size)
+
+    addressed-size : length addressed ≡ addressEnd + 1
+    addressed-size = length-append (typed ++ ad) (32 ∷ []) ∙ omega (arith, length-append typed ad, typed-size)
+
+    all-parts : addressed ++ tx ≡ linkLine names ty ad tx
+    all-parts = simp append-assoc
+
+    module _ {a b c d : List ℕ} (p : a ≡ placed 2 names (set (set zeros 0 76) 1 73)) (q : b ≡ placed 15 ty (set a 14 32)) (r : c ≡ placed (typeEnd + 1) ad (set b typeEnd 32)) (s : d ≡ placed (addressEnd + 1) tx (set c addressEnd 32)) where
+      names-laid : a ≡ over (76 ∷ 73 ∷ names) zeros
+      names-laid = p ∙ part-over (76 ∷ 73 ∷ []) names zeros _ 2 (two-placed zeros 76 73 (omega arith)) refl (omega arith)
+
+      type-laid : b ≡ over (headed ++ ty) zeros
+      type-laid =
+          q ∙ part-over headed ty zeros _ 15 (set-over (76 ∷ 73 ∷ names) zeros a 32 14 (omega arith) (omega arith) names-laid) (sym headed-size) (omega arith)
+
+      address-laid : c ≡ over (typed ++ ad) zeros
+      address-laid =
+          r ∙ part-over typed ad zeros _ (typeEnd + 1) (set-over (headed ++ ty) zeros b 32 typeEnd (length-append headed ty ∙ omega (arith, headed-size)) (omega arith) type-laid) (sym typed-size) (omega arith)
+
+      pub link-laid : d ≡ over (linkLine names ty ad tx) zeros
+      link-laid =
+          s
+          ∙ part-over addressed tx zeros _ (addressEnd + 1) (set-over (typed ++ ad) zeros c 32 addressEnd (length-append typed ad ∙ omega (arith, typed-size)) (omega arith) address-laid) (sym addressed-size) (omega arith)
+          ∙ ap (λ (x : List ℕ). over x zeros) all-parts
+
+pub link-taken : (names ty ad tx line : List ℕ) (n : ℕ) → length names ≡ 12 → n ≡ 17 + length ty + length ad + length tx → line ≡ over (linkLine names ty ad tx) (replicate 255 0) → take n line ≡ linkLine names ty ad tx
+link-taken names ty ad tx line n k e q = ap (take n) q ∙ take-at (linkLine names ty ad tx) _ n (link-size names ty ad tx k ∙ sym e)

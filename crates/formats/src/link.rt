@@ -1,0 +1,240 @@
+// CUBE lines: LI messages, links to pages about an event, read and written.
+use super::cube::LINK;
+use super::cube::LineRead;
+use super::cube::Read;
+use super::cube::refused;
+use super::record::copy_at;
+use super::record::same;
+use columns::Outcome;
+use columns::bytes::copy;
+use columns::bytes::first_barred;
+ghost use mathlib.Core.Path.{_≡_};
+ghost use mathlib.Core.List.{_++_};
+ghost use Prim.Native.Nat.{_+_, _≤_, min};
+ghost use lib.ListN.{length, drop, getD, replicate};
+ghost use Rattle.columns.specs.Table.{over, Wrote};
+ghost use Rattle.formats.specs.Link.{word, isWord, formed, textOf, saysDelete};
+ghost use Rattle.formats.specs.Cube.{lineOf, link, linkLine, linkParts, readLink, writeMessage};
+
+const BLANK: u8 = 32;
+
+// Where the word that starts at `from` ends: its blank, or the end of the line.
+fn word_end(line: &[u8], from: usize) -> usize
+    ensures { λ r. ⌜ r ≡ from + length (word (drop from (now (line .entry)))) ⌝ }
+{
+    let mut i = from;
+    while i < line.len() {
+        if line[i] == BLANK {
+            return i;
+        }
+        i += 1;
+    }
+    i
+}
+
+// Whether there is at least one byte, and no blank.
+fn is_word(s: &[u8]) -> bool
+    ensures { λ r. ⌜ r ≡ isWord (now (s .entry)) ⌝ }
+{
+    if s.len() == 0 {
+        return false;
+    }
+    word_end(s, 0) == s.len()
+}
+
+// Whether the parts of a link are well formed.
+fn is_formed(kind: &[u8], address: &[u8], text: &[u8]) -> bool
+    ensures { λ r. ⌜ r ≡ formed (now (kind .entry)) (now (address .entry)) (now (text .entry)) ⌝ }
+{
+    if 16 < kind.len() {
+        return false;
+    }
+    if !is_word(kind) {
+        return false;
+    }
+    if !is_word(address) {
+        return false;
+    }
+    if text.len() == 0 {
+        return false;
+    }
+    text[0] != BLANK
+}
+
+// A record's text: identifier, source and version, then type, address and text.
+fn record_text(names: &[u8], kind: &[u8], address: &[u8], text: &[u8]) -> [u8; 250]
+    requires { ⌜ length (now names) + length (now kind) + length (now address) + length (now text) ≤ 250 ⌝ }
+    ensures { λ r. ⌜ r ≡ over (now (names .entry) ++ (now (kind .entry) ++ (now (address .entry) ++ now (text .entry)))) (replicate 250 0) ⌝ }
+{
+    let mut chars = [0u8; 250];
+    let at = names.len();
+    copy_at(&mut chars, 0, names);
+    copy_at(&mut chars, at, kind);
+    let at = at + kind.len();
+    copy_at(&mut chars, at, address);
+    let at = at + address.len();
+    copy_at(&mut chars, at, text);
+    chars
+}
+
+// The parts of a line of allowed length and bytes.
+fn read_parts(line: &[u8]) -> LineRead
+    requires { ⌜ (20 ≤ length (now line)) × ((length (now line) ≤ 255) × (getD (now line) 14 0 ≡ 32)) ⌝ }
+    ensures { λ r. ⌜ r ≡ lineOf (linkParts (now (line .entry))) ⌝ }
+{
+    let len = line.len();
+    let end = word_end(line, 15);
+    if len <= end {
+        return refused(columns::FORM, 15);
+    }
+    let start = end + 1;
+    let stop = word_end(line, start);
+    if len <= stop {
+        return refused(columns::FORM, 15);
+    }
+    let rest = stop + 1;
+    let kind = &line[15..end];
+    let address = &line[start..stop];
+    let words = &line[rest..len];
+    if !is_formed(kind, address, words) {
+        return refused(columns::FORM, 15);
+    }
+    let flags = [0u8; 19];
+    let values = [0i64; 19];
+    let text = record_text(&line[2..14], kind, address, words);
+    LineRead {
+        read: Read::There(LINK, kind.len(), address.len(), words.len()),
+        flags,
+        values,
+        text,
+    }
+}
+
+// A line whose type is `LI`.
+pub fn read_link(line: &[u8]) -> LineRead
+    ensures { λ r. ⌜ r ≡ lineOf (readLink (now (line .entry))) ⌝ }
+{
+    let len = line.len();
+    if len < 20 {
+        return refused(super::LENGTH, 0);
+    }
+    if 255 < len {
+        return refused(super::LENGTH, 0);
+    }
+    let barred = first_barred(line, 1, 3, 14);
+    if barred != 0 {
+        return refused(columns::BARRED, barred);
+    }
+    if line[14] != BLANK {
+        return refused(columns::FORM, 15);
+    }
+    read_parts(line)
+}
+
+// The line of a link, in the first bytes of 255.
+fn link_line(names: &[u8], kind: &[u8], address: &[u8], text: &[u8]) -> [u8; 255]
+    requires { ⌜ (length (now names) ≡ 12) × (17 + length (now kind) + length (now address) + length (now text) ≤ 255) ⌝ }
+    ensures { λ r. ⌜ r ≡ over (linkLine (now (names .entry)) (now (kind .entry)) (now (address .entry)) (now (text .entry))) (replicate 255 0) ⌝ }
+{
+    let mut line = [0u8; 255];
+    line[0] = 76;
+    line[1] = 73;
+    copy_at(&mut line, 2, names);
+    line[14] = BLANK;
+    copy_at(&mut line, 15, kind);
+    let at = 15 + kind.len();
+    line[at] = BLANK;
+    copy_at(&mut line, at + 1, address);
+    let at = at + 1 + address.len();
+    line[at] = BLANK;
+    copy_at(&mut line, at + 1, text);
+    line
+}
+
+// The bytes of type, address and text together, at most 256.
+fn parts_size(kind: &[u8], address: &[u8], text: &[u8]) -> usize
+    ensures { λ r. ⌜ r ≡ min 256 (length (now (kind .entry)) + length (now (address .entry)) + length (now (text .entry))) ⌝ }
+{
+    if 255 < kind.len() {
+        return 256;
+    }
+    if 255 < address.len() {
+        return 256;
+    }
+    if 255 < text.len() {
+        return 256;
+    }
+    let size = kind.len() + address.len() + text.len();
+    if 255 < size {
+        return 256;
+    }
+    size
+}
+
+// A link's record, its names in 12 bytes, as a line over the first bytes of `out`.
+fn put_link(names: &[u8], kind: &[u8], address: &[u8], text: &[u8], out: &mut [u8]) -> Outcome
+    requires { ⌜ length (now names) ≡ 12 ⌝ }
+    ensures { λ r. ⌜ Wrote (writeMessage (link (now (names .entry)) (now (kind .entry)) (now (address .entry)) (now (text .entry))) (length (now (out .entry)))) r (now (out .entry)) (now (out .exit)) ⌝ }
+{
+    let end = 17 + parts_size(kind, address, text);
+    if end < 20 {
+        return Outcome::Refused(super::LENGTH, 0);
+    }
+    if 255 < end {
+        return Outcome::Refused(super::LENGTH, 0);
+    }
+    if out.len() < end {
+        return Outcome::Refused(columns::SHORT, 0);
+    }
+    let line = link_line(names, kind, address, text);
+    let barred = first_barred(&line[0..end], 1, 3, 14);
+    if barred != 0 {
+        return Outcome::Refused(columns::BARRED, barred);
+    }
+    if !is_formed(kind, address, text) {
+        return Outcome::Refused(columns::FORM, 15);
+    }
+    copy(out, &line[0..end]);
+    Outcome::Done
+}
+
+// A link's record, identifier, source and version, type, address and text, as a line over the first bytes of `out`. Nothing
+// is changed where it is refused.
+pub fn write_link(
+    names: &[u8; 12],
+    kind: &[u8],
+    address: &[u8],
+    text: &[u8],
+    out: &mut [u8],
+) -> Outcome
+    ensures { λ r. ⌜ Wrote (writeMessage (link (now (names .entry)) (now (kind .entry)) (now (address .entry)) (now (text .entry))) (length (now (out .entry)))) r (now (out .entry)) (now (out .exit)) ⌝ }
+{
+    put_link(names, kind, address, text, out)
+}
+
+// Whether a link's text takes it back.
+fn says_delete(text: &[u8]) -> bool
+    ensures { λ r. ⌜ r ≡ saysDelete (now (text .entry)) ⌝ }
+{
+    if same(text, b"delete") {
+        return true;
+    }
+    same(text, b"delete:")
+}
+
+// Whether the text of a line's link takes it back.
+pub fn is_delete(line: &[u8]) -> bool
+    ensures { λ r. ⌜ r ≡ saysDelete (textOf (now (line .entry))) ⌝ }
+{
+    let len = line.len();
+    let end = word_end(line, 15);
+    if len <= end {
+        return false;
+    }
+    let stop = word_end(line, end + 1);
+    if len <= stop {
+        return false;
+    }
+    let rest = stop + 1;
+    says_delete(&line[rest..len])
+}
