@@ -1,6 +1,6 @@
 // Keys by value: the words of a source, an identifier and a type, and their order.
 ghost use mathlib.Core.Path.{_≡_};
-ghost use mathlib.Core.Bool.{true};
+ghost use mathlib.Core.Bool.{true, false};
 ghost use Prim.Native.Nat.{_+_, _≤_, _<_};
 ghost use lib.ListN.{length};
 ghost use lib.Dec.{ltb, eqb};
@@ -56,28 +56,42 @@ fn type_at(s: &[u8], at: usize) -> [u8; 16]
     bytes
 }
 
-// The key whose source and identifier stand at two places; its type, if it has one, stands 13 bytes after the identifier's first.
+// The key whose source and identifier stand at two places, with no type.
+fn pair_at(s: &[u8], source: usize, identifier: usize) -> Key
+    requires { ⌜ (source + 2 ≤ length (now s)) × (identifier + 8 ≤ length (now s)) ⌝ }
+    ensures { λ r. ⌜ keyNumber r ≡ keyIn false source identifier (now (s .entry)) ⌝ }
+{
+    Key {
+        source: word2(s, source),
+        identifier: word8(s, identifier),
+        high: 0,
+        low: 0,
+    }
+}
+
+// The same with its type, which stands 13 bytes after the identifier's first.
+pub fn triple_at(s: &[u8], source: usize, identifier: usize) -> Key
+    requires { ⌜ (source + 2 ≤ length (now s)) × (identifier + 29 ≤ length (now s)) ⌝ }
+    ensures { λ r. ⌜ keyNumber r ≡ keyIn true source identifier (now (s .entry)) ⌝ }
+{
+    let bytes = type_at(s, identifier + 13);
+    Key {
+        source: word2(s, source),
+        identifier: word8(s, identifier),
+        high: word8(&bytes, 0),
+        low: word8(&bytes, 8),
+    }
+}
+
+// The key with a type or without one.
 pub fn key_at(s: &[u8], source: usize, identifier: usize, typed: bool) -> Key
     requires { ⌜ (source + 2 ≤ length (now s)) × (identifier + 8 ≤ length (now s)) × (typed ≡ true → identifier + 29 ≤ length (now s)) ⌝ }
     ensures { λ r. ⌜ keyNumber r ≡ keyIn typed source identifier (now (s .entry)) ⌝ }
 {
-    let first = word2(s, source);
-    let second = word8(s, identifier);
     if typed {
-        let bytes = type_at(s, identifier + 13);
-        return Key {
-            source: first,
-            identifier: second,
-            high: word8(&bytes, 0),
-            low: word8(&bytes, 8),
-        };
+        return triple_at(s, source, identifier);
     }
-    Key {
-        source: first,
-        identifier: second,
-        high: 0,
-        low: 0,
-    }
+    pair_at(s, source, identifier)
 }
 
 // Whether a stands before b, where their sources and identifiers are equal.

@@ -6,7 +6,7 @@ use super::decide::Notice;
 use super::decide::decide;
 use super::decide::limited;
 use super::decide::look_both;
-use super::key::key_at;
+use super::key::triple_at;
 use super::link::limited_link;
 use super::link::link_entry;
 use super::link::over_link;
@@ -217,7 +217,7 @@ fn take_link(room: &mut [u8], named: usize, line: &[u8]) -> Receipt
 {
     let links = links_in(room, deletions_in(room, held_in(room)));
     let entry = link_entry(line);
-    let seek = look(room, links, key_at(&entry, 11, 3, true));
+    let seek = look(room, links, triple_at(&entry, 11, 3));
     let deed = limited_link(links.count, seek, over_link(room, links, seek, &entry));
     store_link(room, links, seek, deed, line, &entry);
     Receipt {

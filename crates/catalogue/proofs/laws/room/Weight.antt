@@ -34,6 +34,27 @@ use Rattle.catalogue.proofs.laws.room.Zeros.{zero-rest}
 use Rattle.catalogue.proofs.laws.room.Places.{held-key, deletion-key}
 use Rattle.formats.specs.Cube as cube
 
+-- ---- a line judged: whether it is an E line, whether it is a link
+
+answers : (a : Answer Message) → (isEventAnswer a ≡ isEvent (kindOf a)) × (isLinkAnswer a ≡ isLink (kindOf a))
+unfolding isEvent isLink
+answers (ok (cube.event ns t)) = (refl, refl)
+answers (ok (cube.delete names t)) = by-test (eqb (getD names 10 0) 32)
+  where
+    by-test : (t : Bool) → (false ≡ isEvent (pick t blank delete)) × (false ≡ isLink (pick t blank delete))
+    by-test true = (refl, refl)
+    by-test false = (refl, refl)
+answers (ok (cube.link names ty ad tx)) = (refl, refl)
+answers (refusal n k) = (refl, refl)
+
+event-line : (l : List ℕ) → isEventLine l ≡ isEvent (kind l)
+unfolding kind
+event-line l = event-line-is l ∙ answers (readLine l) .0
+
+link-line : (l : List ℕ) → isLinkLine l ≡ isLink (kind l)
+unfolding kind
+link-line l = link-line-is l ∙ answers (readLine l) .1
+
 -- ---- a deletion's bytes, judged where they stand
 
 pub deletion-judged : (of : Section) (s : List ℕ) → Inside of s → of .size ≡ 11 → (i : ℕ) → i < of .count → {at : ℕ} → at ≡ of .at + 2 + of .size * i
@@ -43,21 +64,6 @@ deletion-judged of s f size i h stands judged =
     rw (eq-eqb (length (getD (entriesOf of s) i [])) 11 (entry-length of s f i h ∙ size), ← entry-part of s i h size stands, ← judged)
 
 -- ---- a link's entry, judged where it stands
-
-link-answer : (a : Answer Message) → isLinkAnswer a ≡ isLink (kindOf a)
-unfolding isLink
-link-answer (ok (cube.event ns t)) = refl
-link-answer (ok (cube.delete names t)) = by-test (eqb (getD names 10 0) 32)
-  where
-    by-test : (t : Bool) → false ≡ isLink (pick t blank delete)
-    by-test true = refl
-    by-test false = refl
-link-answer (ok (cube.link names ty ad tx)) = refl
-link-answer (refusal n k) = refl
-
-link-line : (l : List ℕ) → isLinkLine l ≡ isLink (kind l)
-unfolding kind
-link-line l = link-line-is l ∙ link-answer (readLine l)
 
 -- the line that its first byte says, and zeros after it
 module _ (e : List ℕ) (n : length e ≡ 256) (b : getD e 0 0 < 256) where
@@ -100,21 +106,6 @@ module _ (e : List ℕ) (n : length e ≡ 256) (b : getD e 0 0 < 256) where
     link-misread t = sym (ap (λ (l : List ℕ). isLink (kind l) && sameBytes (linkEntry (linkLine e)) e) (sym judged-line) ∙ rw (← link-line (take (end - 1) (drop 1 e)), t))
 
 -- ---- a held line's weight: 0 where it is refused, else 1 and what it counts
-
-event-answer : (a : Answer Message) → isEventAnswer a ≡ isEvent (kindOf a)
-unfolding isEvent
-event-answer (ok (cube.event ns t)) = refl
-event-answer (ok (cube.delete names t)) = by-test (eqb (getD names 10 0) 32)
-  where
-    by-test : (t : Bool) → false ≡ isEvent (pick t blank delete)
-    by-test true = refl
-    by-test false = refl
-event-answer (ok (cube.link names ty ad tx)) = refl
-event-answer (refusal n k) = refl
-
-event-line : (l : List ℕ) → isEventLine l ≡ isEvent (kind l)
-unfolding kind
-event-line l = event-line-is l ∙ event-answer (readLine l)
 
 abbrev pub weightOf : List (List ℕ) → List ℕ → ℕ
 weightOf D x = pick (heldOk D x) (1 + length (onlyHeld D (x ∷ []))) 0

@@ -22,7 +22,7 @@ sought : (c : tie.After-look) → let a = c .before .before .before .before .bef
 sought c =
     let d = c .before .before .before .before .before .before .before .before .before .before .before in
     let e = c .before .before .before .before .before .links-in .ensures in
-    link-sought (d .pre .0) e (d .args .line .now) (d .pre .2) (line-key (d .pre .0) e (d .args .line .now) (d .pre .2) (c .before .before .before .before .link-entry .ensures) (c .before .key-at .ensures)) (c .look .result) (c .look .ensures)
+    link-sought (d .pre .0) e (d .args .line .now) (d .pre .2) (line-key (d .pre .0) e (d .args .line .now) (d .pre .2) (c .before .before .before .before .link-entry .ensures) (c .before .triple-at .ensures)) (c .look .result) (c .look .ensures)
 
 decided : (c : tie.After-limited-link) → let a = c .before .before .before .before .before .before .before .before .before .before .before .before .before .before .before .args in
     c .limited-link .result ≡ deedOf (contents (a .room .now)) (a .line .now)
@@ -53,14 +53,14 @@ link-entry-requires c κs =
     let d = c .before .before .before .before .before .before in
     link-whole (d .args .line .now) (d .pre .2) .short
 
-slice-aggregate-key-at : tie.Need-slice-aggregate-key-at
-slice-aggregate-key-at c = search needs
+slice-aggregate-triple-at : tie.Need-slice-aggregate-triple-at
+slice-aggregate-triple-at c = search needs
 
-key-at-requires : tie.Need-key-at-requires
-key-at-requires c κs =
+triple-at-requires : tie.Need-triple-at-requires
+triple-at-requires c κs =
     let d = c .before .before .before .before .before .before .before .before .before in
     let n : length (c .before .before .link-entry .result) ≡ 256 = ap length (c .before .before .link-entry .ensures) ∙ entry-length (d .args .line .now) (link-whole (d .args .line .now) (d .pre .2)) in
-    (omega arith, omega arith, λ t. omega arith)
+    (omega arith, omega arith)
 
 look-requires : tie.Need-look-requires
 look-requires c κs = links-open (c .before .before .before .before .before .before .before .before .before .before .pre .0) (c .before .before .before .before .links-in .ensures)
@@ -108,8 +108,8 @@ take-link-spec =
     deletions-in-requires
     links-in-requires
     link-entry-requires
-    slice-aggregate-key-at
-    key-at-requires
+    slice-aggregate-triple-at
+    triple-at-requires
     look-requires
     slice-aggregate-over-link
     over-link-requires
