@@ -16,6 +16,18 @@ use Rattle.formats.specs.Record.{sameBytes}
 
 -- ---- words: the bytes before the first blank
 
+pub word-nil : word [] ≡ []
+unfolding word
+word-nil = refl
+
+pub word-stop : (b : ℕ) (s : List ℕ) → b ≡ 32 → word (b ∷ s) ≡ []
+unfolding word
+word-stop b s e = rw (eq-eqb b 32 e)
+
+pub word-more : (b : ℕ) (s : List ℕ) → (b ≡ 32 → ⊥) → word (b ∷ s) ≡ b ∷ word s
+unfolding word
+word-more b s n = rw (ne-eqb b 32 n)
+
 short-case : (t : Bool) (b : ℕ) (s w : List ℕ) → length w ≤ length s → length (pick t [] (b ∷ w)) ≤ length (b ∷ s)
 short-case true b s w h = omega arith
 short-case false b s w h = omega arith

@@ -15,6 +15,7 @@ use Rattle.catalogue.specs.Entries.{entriesOf, Inside}
 use Rattle.catalogue.specs.Ordered.{Ordered}
 use Rattle.catalogue.specs.Room.{contents}
 use Rattle.catalogue.specs.Places.{linksIn}
+use Rattle.catalogue.proofs.laws.step.Link.{line-cut}
 use Rattle.catalogue.proofs.laws.room.Places.{few, link-inside, link-entries}
 use Rattle.catalogue.proofs.laws.section.Rows.{entries-length, entry-part}
 use Rattle.take.specs.Text.{Put, Printable, rowLines}
@@ -50,16 +51,12 @@ module _ (e : List ℕ) where
 
 -- the line that the code cuts out of an entry
 module _ (e : List ℕ) {end : ℕ} (p : end ≡ 1 + getD e 0 0) where
-  pub line-is : take (end - 1) (drop 1 e) ≡ linkLine e
-  unfolding linkLine
-  line-is = let k : end - 1 ≡ getD e 0 0 = omega arith in ap (λ (m : ℕ). take m (drop 1 e)) k
-
   pub line-size : length e ≡ 256 → getD e 0 0 < 256 → length (take (end - 1) (drop 1 e)) ≡ getD e 0 0
   line-size n b = let k : end - 1 ≡ getD e 0 0 = omega arith in rw k (length-take-le (getD e 0 0) (drop 1 e) (simp length-drop (omega arith)))
 
   -- what was said of it
   pub line-says : {z t : Bool} → z ≡ saysDelete (textOf (take (end - 1) (drop 1 e))) → z ≡ t → saysDelete (textOf (linkLine e)) ≡ t
-  line-says q r = ap (λ (x : List ℕ). saysDelete (textOf x)) (sym line-is) ∙ sym q ∙ r
+  line-says q r = ap (λ (x : List ℕ). saysDelete (textOf x)) (sym (line-cut e p)) ∙ sym q ∙ r
 
 -- ---- an entry printed
 

@@ -29,6 +29,7 @@ use Rattle.catalogue.specs.Places.{heldIn, deletionsIn}
 use Rattle.catalogue.proofs.laws.section.Rows.{entry-length, entry-part}
 use Rattle.catalogue.proofs.laws.section.Search.{asc-at, below-grows, every-more, every-stop, every-end}
 use Rattle.catalogue.proofs.laws.section.Seek.{sought-find, sought-as}
+use Rattle.catalogue.proofs.laws.step.Link.{line-cut}
 use Rattle.catalogue.proofs.laws.step.Names.{only-cons, only-none, only-some}
 use Rattle.catalogue.proofs.laws.room.Zeros.{zero-rest}
 use Rattle.catalogue.proofs.laws.room.Places.{held-key, deletion-key}
@@ -90,20 +91,16 @@ module _ (e : List ℕ) (n : length e ≡ 256) (b : getD e 0 0 < 256) where
       ap₂ (λ (m j : ℕ). sameBytes (m ∷ (take size (drop 1 e) ++ replicate j 0)) e) line-long k ∙ zero-rest x e f ∙ ap (λ (m : ℕ). allZero (drop m e)) l
 
   module _ {end : ℕ} (p : end ≡ 1 + size) where
-    judged-line : take (end - 1) (drop 1 e) ≡ linkLine e
-    unfolding linkLine
-    judged-line = let k : end - 1 ≡ size = omega arith in ap (λ (m : ℕ). take m (drop 1 e)) k
-
     pub link-judged : {z : Bool} → z ≡ allZero (take (256 - end) (drop end e)) → isLinkLine (take (end - 1) (drop 1 e)) ≡ true → z ≡ linkOk e
     unfolding linkOk
     link-judged q t =
         let s : end ≡ suc size = omega arith in
         let a : take (256 - end) (drop end e) ≡ drop (suc size) e = take-all (256 - end) (drop end e) (simp length-drop (omega arith)) ∙ ap (λ (m : ℕ). drop m e) s in
-        q ∙ ap allZero a ∙ sym (ap (λ (l : List ℕ). isLink (kind l) && sameBytes (linkEntry (linkLine e)) e) (sym judged-line) ∙ rw (← link-line (take (end - 1) (drop 1 e)), t) layout)
+        q ∙ ap allZero a ∙ sym (ap (λ (l : List ℕ). isLink (kind l) && sameBytes (linkEntry (linkLine e)) e) (sym (line-cut e p)) ∙ rw (← link-line (take (end - 1) (drop 1 e)), t) layout)
 
     pub link-misread : isLinkLine (take (end - 1) (drop 1 e)) ≡ false → false ≡ linkOk e
     unfolding linkOk
-    link-misread t = sym (ap (λ (l : List ℕ). isLink (kind l) && sameBytes (linkEntry (linkLine e)) e) (sym judged-line) ∙ rw (← link-line (take (end - 1) (drop 1 e)), t))
+    link-misread t = sym (ap (λ (l : List ℕ). isLink (kind l) && sameBytes (linkEntry (linkLine e)) e) (sym (line-cut e p)) ∙ rw (← link-line (take (end - 1) (drop 1 e)), t))
 
 -- ---- a held line's weight: 0 where it is refused, else 1 and what it counts
 

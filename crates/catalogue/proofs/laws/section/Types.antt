@@ -5,25 +5,14 @@ use mathlib.Core.Bool.{false}
 use mathlib.Core.List.{List, [], _∷_, _++_, append-assoc, append-nil}
 use native.Mathlib.Numerals.{add-one}
 use native.Mathlib.Omega.{arith}
-use borrow.Author.Tests.{eq-eqb, ne-eqb}
 use lib.ListN.{length, take, drop, getD, set, replicate, length-append, length-take, length-drop, length-replicate}
 use lib.Seq.{take-suc, take-at, drop-at, drop-cons, set-at, length-take-le}
 use Rattle.columns.proofs.laws.Clear.{Clear, allowed-bounds}
 use Rattle.formats.specs.Link.{word}
-use Rattle.formats.proofs.laws.Link.{word-short}
+use Rattle.formats.proofs.laws.Link.{word-nil, word-stop, word-more, word-short}
 use Rattle.formats.proofs.laws.Words.{Bytes, clear-bytes, word-inj}
 use Rattle.catalogue.specs.Line.{typeAt, filled, keyOf}
 use Rattle.columns.proofs.laws.Clear as clear
-
--- ---- a word
-
-word-stop : (b : ℕ) (l : List ℕ) → b ≡ 32 → word (b ∷ l) ≡ []
-unfolding word
-word-stop b l e = rw (eq-eqb b 32 e)
-
-word-more : (b : ℕ) (l : List ℕ) → (b ≡ 32 → ⊥) → word (b ∷ l) ≡ b ∷ word l
-unfolding word
-word-more b l n = rw (ne-eqb b 32 n)
 
 -- ---- a type is at most 16 bytes
 
@@ -75,10 +64,9 @@ module _ {d bytes : List ℕ} {i : ℕ} (long : 16 ≤ length d) (T : Typing d b
         ∙ ap filled (sym (T .word-is ∙ ap (λ (l : List ℕ). take i d ++ l) (ap word rest-is ∙ word-stop (getD d i 0) (take (16 - (i + 1)) (drop (i + 1) d)) (sym e ∙ n)) ∙ append-nil (take i d)))
 
   pub typing-ends : 16 ≤ i → bytes ≡ filled (word (take 16 d))
-  unfolding word
   typing-ends h =
       let e : 16 - i ≡ 0 = omega arith in
-      T .bytes-are ∙ ap filled (sym (T .word-is ∙ rw e (append-nil (take i d))))
+      T .bytes-are ∙ ap filled (sym (T .word-is ∙ rw (e, word-nil) (append-nil (take i d))))
 
 -- ---- a key determines its pair and its type
 

@@ -10,7 +10,7 @@ use Rattle.columns.specs.Answer.{pick, Answer, ok, refusal}
 use lib.Dec.{eqb}
 use Rattle.columns.proofs.laws.Clear.{Clear, clear-take, clear-drop}
 use Rattle.formats.specs.Link.{word, typeOf}
-use Rattle.formats.proofs.laws.Link.{word-take, word-append}
+use Rattle.formats.proofs.laws.Link.{word-take, word-append, type-word}
 use Rattle.formats.proofs.laws.LinkFields.{LinkFields, link-fields}
 use Rattle.catalogue.proofs.laws.assoc.Tri.{le, gt, le?}
 use Rattle.formats.specs.Cube.{Message, readLine}
@@ -59,8 +59,7 @@ link-of-read l (ok (cube.delete names t)) e k = by-test (eqb (getD names 10 0) 3
 link-of-read l (refusal n j) e k = let z : _≡_ {A = ℕ} 0 1 = cc in absurd (omega arith)
 
 type-inside : (l : List ℕ) → 17 + length (typeOf l) ≤ length l → length (word (drop 15 l)) < length (drop 15 l)
-unfolding typeOf
-type-inside l h = simp length-drop (omega arith)
+type-inside l h = simp length-drop (omega (arith, ap length (type-word l)))
 
 take-past : (n : ℕ) (s z : List ℕ) → length s ≤ n → take n (s ++ z) ≡ s ++ take (n - length s) z
 take-past n s z h = let e : n ≡ length s + (n - length s) = omega arith in ap (λ (k : ℕ). take k (s ++ z)) e ∙ take-append-add s z (n - length s)
@@ -108,6 +107,11 @@ triple-keyed l e =
     sym (ap₂ keyOf (take-at (pair l) (linkType l) 10 n) (drop-at (pair l) (linkType l) 10 n))
 
 -- ---- an entry
+
+-- its line, cut out where its first byte says
+pub line-cut : (e : List ℕ) {end : ℕ} → end ≡ 1 + getD e 0 0 → take (end - 1) (drop 1 e) ≡ linkLine e
+unfolding linkLine
+line-cut e {end} p = let k : end - 1 ≡ getD e 0 0 = omega arith in ap (λ (m : ℕ). take m (drop 1 e)) k
 
 module _ (l : List ℕ) (w : WholeLink l) where
   abbrev rest : List ℕ

@@ -2,7 +2,8 @@
 use borrow.Author.Needs.{needs}
 use native.Mathlib.Omega.{arith}
 use mathlib.Core.Path.{refl}
-use Rattle.take.proofs.laws.Links.{line-is, line-size, line-says, link-shown, link-put}
+use Rattle.catalogue.proofs.laws.step.Link.{line-cut}
+use Rattle.take.proofs.laws.Links.{line-size, line-says, link-shown, link-put}
 use Rattle.take.proofs.links.put_link.Statement.{statement}
 use Rattle.take.proofs.links.put_link.Tie as tie
 
@@ -64,7 +65,7 @@ returns-2 c =
     let b = c .before .before .before .before .before .before .before .before .before .before .before .before .shared-slice-known2 .given 0 in
     let p = c .before .before .before .before .before .before .put-bytes in
     let q = c .before .before .put-byte in (
-      link-put e (line-is e refl) (line-says e refl (c .before .before .before .before .before .before .before .before .before .before .is-delete .ensures) (c .before .before .before .before .before .before .before .before .before .if1 .left)) (p .ensures) (q .ensures),
+      link-put e (line-cut e refl) (line-says e refl (c .before .before .before .before .before .before .before .before .before .before .is-delete .ensures) (c .before .before .before .before .before .before .before .before .before .if1 .left)) (p .ensures) (q .ensures),
       omega (arith, p .ensures .place, q .ensures .place, line-size e refl (d .pre .0) (omega (arith, b)), b),
     )
 
