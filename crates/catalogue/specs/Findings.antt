@@ -47,7 +47,7 @@ abbrev pub IsFound : Seek → Type 0
 IsFound (Found i) = Unit {0}
 IsFound (Missing i) = ⊥
 
--- both sections lie in the room's bytes, and both places in their sections
+-- held lines and deletions lie in the room's bytes, and both places in their sections
 pub record Placed (r : List ℕ) (f : Findings) : Type 0 where
   pub held-inside : Inside (f .held) r
   pub deletions-inside : Inside (f .deletions) r
@@ -56,7 +56,7 @@ pub record Placed (r : List ℕ) (f : Findings) : Type 0 where
   pub held-place : placeOf (f .in_held) (f .held .count)
   pub deletion-place : placeOf (f .in_deletions) (f .deletions .count)
 
--- both sections of the room, and where the line's pair stands in each; for an event whose pair is held, the deletions were not searched
+-- held lines and deletions of the room, and where the line's pair stands in each; for an event whose pair is held, the deletions were not searched
 pub record Known (r l : List ℕ) (f : Findings) : Type 0 where
   pub held-is : f .held ≡ heldIn r
   pub deletions-are : f .deletions ≡ deletionsIn r

@@ -8,6 +8,7 @@ pub mod LinkBack
 pub mod CubeBack
 pub mod Tri
 pub mod Words
+pub mod CubeThere
 pub mod CubeRecord
 pub mod CubeRecordBack
 pub mod CubeFields

@@ -14,12 +14,12 @@ use Rattle.columns.specs.Column.{Slot, missing, given}
 use Rattle.columns.specs.Table.{flagsOf, valuesOf, slotsOf, over, placed, Wrote, laid}
 use Rattle.columns.proofs.laws.Answers.{over-whole, done-of, refused-of}
 use Rattle.columns.proofs.laws.Table.{flags-length, values-length}
-use Rattle.formats.specs.declared.cube.Read.{Read}
 use Rattle.formats.specs.declared.cube.LineRead.{LineRead}
 use Rattle.formats.specs.declared.Reply.{Reply}
 use Rattle.formats.specs.Cube.{Message, event, delete, link, eventKind, deleteKind, linkKind, readLine, lineOf, writeMessage}
 use Rattle.formats.specs.Record.{packed, slotsIn, sameBytes, replied, Replied}
 use Rattle.formats.specs.CubeRecord.{filled, recordOf, eventIn, deleteIn, linkIn, messageIn, readRecord, recordAnswer, readInto, writeFrom}
+use Rattle.formats.proofs.laws.CubeThere.{was-event, was-delete, was-link, was-refused}
 use Rattle.formats.proofs.laws.Record.{numbers-length, packed-length, part-over}
 use Rattle.formats.proofs.laws.CubeBack.{Sized, line-accepted, event-size, delete-size}
 use Rattle.columns.specs.declared.Outcome.the-variants as O
@@ -73,86 +73,6 @@ module _ (l : List ℕ) (room : ℕ) where
   pub into-read : 268 ≤ room → readInto l room ≡ recordAnswer (readLine l)
   unfolding readInto
   into-read h = rw (le-ltb room 268 h)
-
--- what the outcome says of the answer
-pub record WasEvent (a : Answer Message) (r : LineRead) : Type 0 where
-  pub numbers : List Slot
-  pub chars : List ℕ
-  pub is : a ≡ ok (event numbers chars)
-  pub flags : r .flags ≡ over (flagsOf numbers) (replicate 19 0)
-  pub values : r .values ≡ over (valuesOf numbers) (replicate 19 (pos 0))
-  pub text : r .text ≡ over chars (replicate 250 0)
-
-pub record WasDelete (a : Answer Message) (r : LineRead) (n : ℕ) : Type 0 where
-  pub names : List ℕ
-  pub chars : List ℕ
-  pub is : a ≡ ok (delete names chars)
-  pub size : length chars ≡ n
-  pub text : r .text ≡ over (names ++ chars) (replicate 250 0)
-
-pub record WasLink (a : Answer Message) (r : LineRead) (t d n : ℕ) : Type 0 where
-  pub names : List ℕ
-  pub kind : List ℕ
-  pub address : List ℕ
-  pub chars : List ℕ
-  pub is : a ≡ ok (link names kind address chars)
-  pub kind-size : length kind ≡ t
-  pub address-size : length address ≡ d
-  pub size : length chars ≡ n
-  pub text : r .text ≡ over (names ++ (kind ++ (address ++ chars))) (replicate 250 0)
-
--- a record that is there is of one of the three kinds
-pub data WasThere (a : Answer Message) (r : LineRead) (k t d n : ℕ) : Type 0 where
-  an-event : k ≡ eventKind → WasEvent a r → WasThere a r k t d n
-  a-delete : k ≡ deleteKind → WasDelete a r n → WasThere a r k t d n
-  a-link : k ≡ linkKind → WasLink a r t d n → WasThere a r k t d n
-
-read-is : (a : Answer Message) (r : LineRead) → r ≡ lineOf a → (x : Read) → r .read ≡ x → lineOf a .read ≡ x
-read-is a r e x q = sym (ap (λ (u : LineRead). u .read) e) ∙ q
-
-pub was-there : (a : Answer Message) (r : LineRead) (k t d n : ℕ) → r ≡ lineOf a → r .read ≡ R.There k t d n → WasThere a r k t d n
-was-there (ok (event ns s)) r k t d n e q =
-    let p : R.There eventKind 0 0 0 ≡ R.There k t d n = read-is (ok (event ns s)) r e (R.There k t d n) q in
-    an-event (cc) (record { numbers = ns; chars = s; is = refl; flags = ap (λ (x : LineRead). x .flags) e; values = ap (λ (x : LineRead). x .values) e; text = ap (λ (x : LineRead). x .text) e })
-was-there (ok (delete names s)) r k t d n e q =
-    let p : R.There deleteKind 0 0 (length s) ≡ R.There k t d n = read-is (ok (delete names s)) r e (R.There k t d n) q in
-    a-delete (cc) (record { names = names; chars = s; is = refl; size = cc; text = ap (λ (x : LineRead). x .text) e })
-was-there (ok (link names ty ad tx)) r k t d n e q =
-    let p : R.There linkKind (length ty) (length ad) (length tx) ≡ R.There k t d n = read-is (ok (link names ty ad tx)) r e (R.There k t d n) q in
-    a-link (cc)
-    (record { names = names; kind = ty; address = ad; chars = tx; is = refl; kind-size = cc; address-size = cc; size = cc; text = ap (λ (x : LineRead). x .text) e })
-was-there (refusal m j) r k t d n e q = let p : R.Refused m j ≡ R.There k t d n = read-is (refusal m j) r e (R.There k t d n) q in let z : _≡_ {A = ℕ} 0 1 = cc in let y : ⊥ = omega arith in absurd y
-
-module _ (a : Answer Message) (r : LineRead) (k t d n : ℕ) (e : r ≡ lineOf a) (q : r .read ≡ R.There k t d n) where
-  pub was-event : k ≡ eventKind → WasEvent a r
-  was-event h =
-      elim (was-there a r k t d n e q) [
-        | an-event i w ↦ w
-        | a-delete i w ↦ absurd (omega arith)
-        | a-link i w ↦ absurd (omega arith)
-      ]
-
-  pub was-link : k ≡ linkKind → WasLink a r t d n
-  was-link h =
-      elim (was-there a r k t d n e q) [
-        | an-event i w ↦ absurd (omega arith)
-        | a-delete i w ↦ absurd (omega arith)
-        | a-link i w ↦ w
-      ]
-
-  pub was-delete : (k ≡ eventKind → ⊥) → (k ≡ linkKind → ⊥) → WasDelete a r n
-  was-delete h j =
-      elim (was-there a r k t d n e q) [
-        | an-event i w ↦ absurd (h i)
-        | a-delete i w ↦ w
-        | a-link i w ↦ absurd (j i)
-      ]
-
-pub was-refused : (a : Answer Message) (r : LineRead) (n k : ℕ) → r ≡ lineOf a → r .read ≡ R.Refused n k → a ≡ refusal n k
-was-refused (ok (event ns t)) r n k e q = let p : R.There eventKind 0 0 0 ≡ R.Refused n k = read-is (ok (event ns t)) r e (R.Refused n k) q in let z : _≡_ {A = ℕ} 0 1 = cc in let y : ⊥ = omega arith in absurd y
-was-refused (ok (delete names t)) r n k e q = let p : R.There deleteKind 0 0 (length t) ≡ R.Refused n k = read-is (ok (delete names t)) r e (R.Refused n k) q in let z : _≡_ {A = ℕ} 0 1 = cc in let y : ⊥ = omega arith in absurd y
-was-refused (ok (link names ty ad tx)) r n k e q = let p : R.There linkKind (length ty) (length ad) (length tx) ≡ R.Refused n k = read-is (ok (link names ty ad tx)) r e (R.Refused n k) q in let z : _≡_ {A = ℕ} 0 1 = cc in let y : ⊥ = omega arith in absurd y
-was-refused (refusal m j) r n k e q = let p : R.Refused m j ≡ R.Refused n k = read-is (refusal m j) r e (R.Refused n k) q in cc
 
 over-length : {A : Type 0} (xs l : List A) → length xs ≤ length l → length (over xs l) ≡ length l
 over-length xs l h = length-append xs (drop (length xs) l) ∙ omega (arith, length-drop (length xs) l)

@@ -20,7 +20,7 @@ use Rattle.formats.specs.declared.cube.LineRead.{LineRead}
 use Rattle.formats.specs.Cube.{eventColumns, Message, event, delete, link, eventKind, deleteKind, linkKind, asEvent, lowestBarred, linkBarred, linkParts, readEvent, readDelete, readLink, readLine, lineOf, isType, differs, wrongLength, wrongType}
 use Rattle.formats.specs.Judge.{isEventAnswer, isEventLine, isLinkAnswer, isLinkLine}
 use Rattle.formats.proofs.laws.Cube.{pick-not, event-length, event-barred, event-check, event-columns, line-event}
-use Rattle.formats.proofs.laws.CubeRecord.{was-refused}
+use Rattle.formats.proofs.laws.CubeThere.{was-refused}
 use Rattle.formats.specs.declared.cube.Read.the-variants as R
 
 as-event-is : (a : Answer Rec) → isEventAnswer (asEvent a) ≡ isOk a

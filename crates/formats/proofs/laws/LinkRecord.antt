@@ -7,7 +7,7 @@ use native.Mathlib.Omega.{arith}
 use lib.ListN.{length, take, drop, getD, replicate, length-drop, length-take}
 use lib.Seq.{take-at, drop-at, take-add, drop-drop, length-take-le}
 use Rattle.columns.specs.declared.Outcome.{Outcome}
-use Rattle.columns.specs.Answer.{Answer, ok, refusal, badForm}
+use Rattle.columns.specs.Answer.{ok, badForm}
 use Rattle.columns.specs.Table.{over, Wrote}
 use Rattle.columns.proofs.laws.Answers.{over-whole}
 use Rattle.formats.specs.Cube.{Message, link, linkKind, readLine, writeMessage}
@@ -17,7 +17,7 @@ use Rattle.formats.proofs.laws.Record.{same-is, same-self}
 use Rattle.formats.proofs.laws.LinkBack.{link-back-size}
 use Rattle.formats.proofs.laws.CubeBack.{Sized, line-accepted}
 use Rattle.formats.proofs.laws.CubeRecord.{replied-refused, wrote-replied, replied-as, from-other, from-same, filled-length, parts-length, link-named}
-use Rattle.formats.proofs.laws.LinkFields.{link-fields, link-written}
+use Rattle.formats.proofs.laws.LinkFields.{link-written}
 use Rattle.formats.specs.declared.Reply.the-variants as P
 
 -- what the code took out of a link's record

@@ -1,7 +1,7 @@
 -- All four words are equal.
 use borrow.Author.Needs.{needs}
 use Rattle.catalogue.specs.Keys.{keyNumber}
-use Rattle.catalogue.proofs.laws.section.Keys.{Small, words-differ, low-words-equal}
+use Rattle.catalogue.proofs.laws.section.Keys.{words-differ, low-words-equal}
 use Rattle.catalogue.proofs.key.equal.Statement.{statement}
 use Rattle.catalogue.proofs.key.equal.Tie as tie
 

@@ -1,6 +1,5 @@
 -- Its words are the pair's.
 use borrow.Author.Needs.{needs}
-use native.Mathlib.Omega.{arith}
 use mathlib.Core.Path.{refl}
 use Rattle.catalogue.proofs.laws.section.Keys.{plain-key}
 use Rattle.catalogue.proofs.key.pair_at.Statement.{statement}

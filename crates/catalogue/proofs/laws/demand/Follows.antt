@@ -22,7 +22,7 @@ use Rattle.catalogue.proofs.laws.assoc.Tri.{eq, ne, eq?}
 use Rattle.catalogue.proofs.laws.assoc.Assoc.{ext}
 use Rattle.catalogue.proofs.laws.assoc.Members.{fewer}
 use Rattle.catalogue.proofs.laws.step.Line.{whole, event-ok, delete-ok, deletion-key}
-use Rattle.catalogue.proofs.laws.step.Link.{link-whole, entry-key, keyOfTriple, triple-keyed, Link?, yes, no, link?}
+use Rattle.catalogue.proofs.laws.step.Link.{link-whole, entry-key, keyOfTriple, triple-keyed, yes, no, link?}
 use Rattle.catalogue.proofs.laws.step.Names.{Names, named-room}
 use Rattle.catalogue.proofs.laws.step.Decide.{limited-open, limited-link-open, deed-of, deed-link, deed-refused}
 use Rattle.catalogue.proofs.laws.step.Fair.{deed-fair}

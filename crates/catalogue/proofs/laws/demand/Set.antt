@@ -14,7 +14,7 @@ use Rattle.catalogue.specs.Taking.{run}
 use Rattle.catalogue.specs.FromSet.{Of, DeletionIs, HeldIs, LinkIs, IsCatalogueOf}
 use Rattle.catalogue.specs.Lists.{Occurs, SameLines, Settled}
 use Rattle.catalogue.specs.Last.{lastHighest, deletionFor, heldFor, linkFor, lastCatalogue}
-use Rattle.catalogue.specs.Demand.{PairKept, KeptBy, Kept}
+use Rattle.catalogue.specs.Demand.{KeptBy, Kept}
 use Rattle.catalogue.proofs.laws.assoc.Tests.{pick-by}
 use Rattle.catalogue.proofs.laws.step.Line.{event-ok, delete-ok, blank-ok, key-inj, deletion-eq}
 use Rattle.catalogue.proofs.laws.step.Link.{link-ok, triple-inj}

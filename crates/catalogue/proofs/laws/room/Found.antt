@@ -15,7 +15,7 @@ use Rattle.catalogue.specs.declared.decide.Notice.{Notice}
 use Rattle.catalogue.specs.declared.decide.Notice.the-variants.{Event, Delete, Blank}
 use Rattle.catalogue.specs.declared.decide.Findings.{Findings}
 use Rattle.catalogue.specs.Assoc.{find, AscFrom}
-use Rattle.catalogue.specs.Line.{Acceptable, event, delete, blank, link, kind, key, pair, deletion, deletionKey}
+use Rattle.catalogue.specs.Line.{Acceptable, event, link, kind, key, pair, deletion, deletionKey}
 use Rattle.catalogue.specs.Catalogue.{named}
 use Rattle.catalogue.specs.Taking.{covered, decide, limited, deedOf}
 use Rattle.catalogue.specs.Room.{contents}

@@ -1,11 +1,11 @@
 -- A link in a room in order: its bytes, what is found and decided of its triple, and its entry stored.
 use Prim.Native.Nat.{ℕ, suc, _+_, _*_, _-_, _≤_, _<_}
-use mathlib.Core.Path.{_≡_, refl, sym, _∙_, ap, ap₂, subst}
-use mathlib.Core.List.{List, [], _∷_, _++_}
+use mathlib.Core.Path.{_≡_, sym, _∙_, ap, ap₂, subst}
+use mathlib.Core.List.{List, [], _∷_}
 use mathlib.Core.Bool.{Bool, true, false}
 use mathlib.Core.Option.{Option, some}
 use native.Mathlib.Omega.{arith}
-use lib.ListN.{length, drop, getD, set, replicate, length-replicate, replicate-append-replicate}
+use lib.ListN.{length, drop, set, replicate, length-replicate, replicate-append-replicate}
 use borrow.Author.Tests.{lt-ltb, le-ltb}
 use lib.Seq.{paste, getD-drop, take-length, drop-at}
 use Rattle.catalogue.specs.declared.section.Section.{Section}
@@ -15,9 +15,8 @@ use Rattle.catalogue.specs.declared.decide.Deed.the-variants.{Leave, Hol
 use Rattle.formats.specs.Record.{sameBytes}
 use Rattle.catalogue.specs.Answers.{replaced, repeated, outdated}
 use Rattle.catalogue.specs.Assoc.{find, put, AscFrom}
-use Rattle.catalogue.specs.Line.{event, link, kind, tripleKey, wideVersion, linkEntry, linkKey, linkVersion}
+use Rattle.catalogue.specs.Line.{link, kind, tripleKey, wideVersion, linkEntry, linkKey, linkVersion}
 use Rattle.catalogue.specs.Section.{part}
-use Rattle.catalogue.specs.Catalogue.{Catalogue, parts, withLinks}
 use Rattle.catalogue.specs.Taking.{overLink, limitedLink, linkDeed, deedOf, done}
 use Rattle.catalogue.specs.Room.{roomSize, encode, contents, roomAfter}
 use Rattle.catalogue.specs.Ordered.{Ordered}
@@ -31,7 +30,7 @@ use Rattle.catalogue.proofs.laws.step.Link.{link-whole, entry-length, e
 use Rattle.catalogue.proofs.laws.step.Fair.{Fair, deed-fair}
 use Rattle.catalogue.proofs.laws.step.Decide.{deed-link}
 use Rattle.catalogue.proofs.laws.room.View.{view, view-good}
-use Rattle.catalogue.proofs.laws.room.Places.{link-key, link-entries, link-count, few as few-entries, used-is, used-fits, link-stands, link-inside, link-asc}
+use Rattle.catalogue.proofs.laws.room.Places.{link-key, link-entries, link-count, few as few-entries, used-is, link-stands, link-inside, link-asc}
 use Rattle.catalogue.proofs.laws.room.Found.{sought-place}
 use Rattle.catalogue.proofs.laws.room.Carry.{PutAsks, room-capacity, fits, left, done-room, done-fits}
 

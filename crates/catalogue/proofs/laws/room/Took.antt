@@ -12,7 +12,7 @@ use Rattle.formats.specs.Cube.{Message, eventKind, linkKind, readLine, lineOf}
 use Rattle.formats.specs.declared.cube.LineRead.{LineRead}
 use Rattle.formats.specs.declared.cube.Read.the-variants.{There}
 use Rattle.formats.proofs.laws.CubeFields.{delete-version}
-use Rattle.formats.proofs.laws.CubeRecord.{was-event, was-delete, was-link}
+use Rattle.formats.proofs.laws.CubeThere.{was-event, was-delete, was-link}
 use Rattle.catalogue.specs.declared.section.Seek.{Seek}
 use Rattle.catalogue.specs.declared.section.Seek.the-variants.{Found, Missing}
 use Rattle.catalogue.specs.declared.decide.Deed.{Deed}

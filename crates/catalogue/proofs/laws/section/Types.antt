@@ -5,7 +5,7 @@ use mathlib.Core.Bool.{false}
 use mathlib.Core.List.{List, [], _∷_, _++_, append-assoc, append-nil}
 use native.Mathlib.Numerals.{add-one}
 use native.Mathlib.Omega.{arith}
-use lib.ListN.{length, take, drop, getD, set, replicate, length-append, length-take, length-drop, length-replicate}
+use lib.ListN.{length, take, drop, getD, set, replicate, length-append, length-take, length-replicate}
 use lib.Seq.{take-suc, take-at, drop-at, drop-cons, set-at, length-take-le}
 use Rattle.columns.proofs.laws.Clear.{Clear, allowed-bounds}
 use Rattle.formats.specs.Link.{word}

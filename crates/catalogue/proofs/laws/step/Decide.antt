@@ -4,7 +4,7 @@ use mathlib.Core.Path.{_≡_, refl, _∙_}
 use mathlib.Core.List.{List}
 use mathlib.Core.Option.{Option, none, some}
 use native.Mathlib.Omega.{arith}
-use lib.Dec.{ltb, leb}
+use lib.Dec.{ltb}
 use Rattle.columns.specs.Answer.{pick}
 use borrow.Author.Tests.{lt-ltb, le-leb, lt-leb}
 use Rattle.formats.specs.Cube.{readLine}

@@ -8,7 +8,7 @@ use lib.ListN.{length}
 use Rattle.catalogue.specs.declared.decide.Deed.{Deed}
 use Rattle.catalogue.specs.declared.decide.Deed.the-variants.{Leave, Hold, Note, Wipe, Link}
 use Rattle.catalogue.specs.Assoc.{find, put, AscFrom}
-use Rattle.catalogue.specs.Line.{event, link, kind, key, deletion, deletionKey, tripleKey, linkEntry, linkKey}
+use Rattle.catalogue.specs.Line.{link, kind, key, deletion, deletionKey, tripleKey, linkEntry, linkKey}
 use Rattle.catalogue.specs.Catalogue.{Catalogue}
 use Rattle.catalogue.specs.Taking.{done}
 use Rattle.catalogue.proofs.laws.assoc.Assoc.{find-put-same, find-put-other, find-remove-same, find-remove-other, put-asc, remove-asc}

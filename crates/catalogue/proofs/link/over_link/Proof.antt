@@ -1,7 +1,6 @@
 -- By the entry that has the triple: none, a version above the line's, the same bytes, or other bytes.
 use borrow.Author.Needs.{needs}
 use native.Mathlib.Omega.{arith}
-use mathlib.Core.Path.{refl}
 use Prim.Native.Nat.{_+_, _≤_, _<_}
 use lib.ListN.{length}
 use Rattle.catalogue.specs.Taking.{overLink}

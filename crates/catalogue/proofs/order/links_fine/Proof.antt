@@ -1,6 +1,5 @@
 -- Both tests.
 use borrow.Author.Needs.{needs}
-use mathlib.Core.Path.{sym, _∙_}
 use Rattle.catalogue.proofs.order.links_fine.Statement.{statement}
 use Rattle.catalogue.proofs.order.links_fine.Tie as tie
 

@@ -1,10 +1,8 @@
 -- Deed by deed: the bytes moved are those of the room after the line.
 use borrow.Author.Needs.{needs}
-use native.Mathlib.Omega.{arith}
 use Rattle.catalogue.proofs.take.carry_out.Statement.{statement}
 use Rattle.catalogue.proofs.take.carry_out.Tie as tie
 use mathlib.Core.Path.{sym, _∙_}
-use Rattle.catalogue.proofs.laws.room.Places.{used-fits}
 use Rattle.catalogue.proofs.laws.room.Carry.{left, hold-asks, hold-room, note-able, note-room, no-link}
 
 enum-told : tie.Need-enum-told

@@ -1,10 +1,8 @@
 -- The deletion is put at its place in the section.
 use borrow.Author.Needs.{needs}
-use native.Mathlib.Omega.{arith}
 use Rattle.catalogue.proofs.take.note.Statement.{statement}
 use Rattle.catalogue.proofs.take.note.Tie as tie
 use mathlib.Core.Path.{_∙_}
-use Rattle.catalogue.proofs.laws.room.Places.{used-fits}
 use Rattle.catalogue.proofs.laws.room.Carry.{note-asks, note-put}
 
 used-in-requires : tie.Need-used-in-requires

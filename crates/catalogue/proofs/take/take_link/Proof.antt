@@ -1,11 +1,11 @@
 -- The link is looked for by its entry's key, decided, and stored.
 use borrow.Author.Needs.{needs}
 use native.Mathlib.Omega.{arith}
-use mathlib.Core.Path.{_≡_, refl, sym, _∙_, ap}
+use mathlib.Core.Path.{_≡_, refl, _∙_, ap}
 use Prim.Native.Nat.{ℕ}
 use lib.ListN.{length}
 use Rattle.catalogue.specs.declared.section.Section.{Section}
-use Rattle.catalogue.specs.Line.{tripleKey, linkEntry, linkKey}
+use Rattle.catalogue.specs.Line.{tripleKey, linkKey}
 use Rattle.catalogue.specs.Taking.{deedOf}
 use Rattle.catalogue.specs.Room.{contents}
 use Rattle.catalogue.specs.Entries.{Sought, entriesOf}

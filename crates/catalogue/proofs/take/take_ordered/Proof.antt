@@ -6,7 +6,7 @@ use Rattle.catalogue.proofs.take.take_ordered.Tie as tie
 use mathlib.Core.Path.{_≡_, refl, _∙_, ap}
 use lib.ListN.{getD}
 use Rattle.catalogue.specs.Line.{kind}
-use Rattle.formats.proofs.laws.CubeRecord.{was-refused}
+use Rattle.formats.proofs.laws.CubeThere.{was-refused}
 use Rattle.catalogue.specs.Findings.{noticeKind, noticeOf, refusedCall}
 use Rattle.catalogue.proofs.laws.step.Line.{whole}
 use Rattle.catalogue.proofs.laws.room.Found.{notice-ok}

@@ -1,5 +1,4 @@
 -- The links end where the sections do.
-use borrow.Author.Needs.{needs}
 use mathlib.Core.Path.{_∙_, ap}
 use Rattle.catalogue.specs.Places.{endOf}
 use Rattle.catalogue.proofs.laws.room.Found.{long-enough}

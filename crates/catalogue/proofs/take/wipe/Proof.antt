@@ -1,10 +1,8 @@
 -- The held line is there; the room without it is in order, and the deletion is put into that.
 use borrow.Author.Needs.{needs}
-use native.Mathlib.Omega.{arith}
 use Rattle.catalogue.proofs.take.wipe.Statement.{statement}
 use Rattle.catalogue.proofs.take.wipe.Tie as tie
 use mathlib.Core.Path.{_∙_}
-use Rattle.catalogue.proofs.laws.room.Places.{used-fits}
 use Rattle.catalogue.proofs.laws.room.Found.{long-enough}
 use Rattle.catalogue.proofs.laws.room.Carry.{Between, wipe-found, wipe-asks, between}
 
