@@ -20,6 +20,11 @@ ghost use Rattle.catalogue.specs.Ordered.{Ordered};
 ghost use Rattle.catalogue.specs.Entries.{entriesOf, entryOf, Inside, placeOf, Sought};
 ghost use Rattle.catalogue.specs.Places.{linksIn};
 
+// The bytes of an entry, and where its line's version stands.
+const ENTRY: usize = 256;
+
+const VERSION: usize = 13;
+
 // A link's bytes: the length of the line, the line, zeros.
 pub fn link_entry(line: &[u8]) -> [u8; 256]
     requires { ⌜ length (now line) ≤ 255 ⌝ }
@@ -40,8 +45,8 @@ pub fn over_link(room: &[u8], of: Section, seek: Seek, entry: &[u8]) -> Deed
         Seek::Missing(_) => Deed::Link(super::STORED),
         Seek::Found(i) => {
             let at = entry_at(room, of, i);
-            let end = at + 256;
-            if word2(entry, 13) < word2(&room[at..end], 13) {
+            let end = at + ENTRY;
+            if word2(entry, VERSION) < word2(&room[at..end], VERSION) {
                 return Deed::Leave(super::OUTDATED);
             }
             if same(entry, &room[at..end]) {

@@ -1,4 +1,5 @@
 // Links printed: the lines of those that no text takes back.
+use super::text::NEWLINE;
 use super::text::put_byte;
 use super::text::put_bytes;
 use super::text::put_number;
@@ -12,8 +13,6 @@ ghost use lib.ListN.{length};
 ghost use Rattle.catalogue.specs.Entries.{entriesOf};
 ghost use Rattle.take.specs.Text.{Put, Printable, rowLines, section, linksTitle};
 ghost use Rattle.take.specs.Links.{shown};
-
-const NEWLINE: u8 = 10;
 
 // 1 for an entry whose link is printed, else 0.
 fn shown_link(entry: &[u8]) -> usize

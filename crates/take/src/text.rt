@@ -16,7 +16,7 @@ ghost use Rattle.catalogue.specs.Room.{contents};
 ghost use Rattle.catalogue.specs.Entries.{entriesOf};
 ghost use Rattle.take.specs.Text.{Put, Printable, digits, decimal, answerLine, rowLines, section, catalogueText};
 
-const NEWLINE: u8 = 10;
+pub const NEWLINE: u8 = 10;
 
 const BLANK: u8 = 32;
 
