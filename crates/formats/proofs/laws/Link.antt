@@ -2,7 +2,7 @@
 use mathlib.Core.Path.{_≡_, refl, sym, ap, _∙_}
 use mathlib.Core.Bool.{Bool, true, false, not, _&&_}
 use mathlib.Core.List.{List, [], _∷_, _++_, append-nil}
-use Prim.Native.Nat.{ℕ, suc, _+_, _-_, _≤_, _<_}
+use Prim.Native.Nat.{ℕ, zero, suc, _+_, _-_, _≤_, _<_}
 use native.Mathlib.Numerals.{add-one}
 use native.Mathlib.Omega.{arith}
 use lib.ListN.{length, take, drop, getD, length-drop, drop-of-length-le}
@@ -27,6 +27,17 @@ word-stop b s e = rw (eq-eqb b 32 e)
 pub word-more : (b : ℕ) (s : List ℕ) → (b ≡ 32 → ⊥) → word (b ∷ s) ≡ b ∷ word s
 unfolding word
 word-more b s n = rw (ne-eqb b 32 n)
+
+front-case : (t : Bool) (b : ℕ) (n : ℕ) (v w : List ℕ) → v ≡ take n w → pick t [] (b ∷ v) ≡ take (suc n) (pick t [] (b ∷ w))
+front-case true b n v w e = refl
+front-case false b n v w e = ap (λ (x : List ℕ). b ∷ x) e
+
+-- of the first bytes it is the first bytes of the whole one
+pub word-front : (n : ℕ) (s : List ℕ) → word (take n s) ≡ take n (word s)
+unfolding word
+word-front zero s = refl
+word-front (suc n) [] = refl
+word-front (suc n) (b ∷ s) = front-case (eqb b 32) b n (word (take n s)) (word s) (word-front n s)
 
 short-case : (t : Bool) (b : ℕ) (s w : List ℕ) → length w ≤ length s → length (pick t [] (b ∷ w)) ≤ length (b ∷ s)
 short-case true b s w h = omega arith

@@ -5,14 +5,13 @@ use mathlib.Core.Bool.{Bool, true, false}
 use mathlib.Core.List.{List, _++_}
 use native.Mathlib.Omega.{arith}
 use lib.ListN.{length, take, drop, getD, replicate, length-append, length-replicate, length-drop, List·getD-append}
-use lib.Seq.{take-at, take-all, drop-at, take-append-le, take-append-add, drop-append-le}
+use lib.Seq.{take-at, take-all, drop-at, take-append-le, drop-append-le}
 use Rattle.columns.specs.Answer.{pick, Answer, ok, refusal}
 use lib.Dec.{eqb}
 use Rattle.columns.proofs.laws.Clear.{Clear, clear-take, clear-drop}
 use Rattle.formats.specs.Link.{word, typeOf}
-use Rattle.formats.proofs.laws.Link.{word-take, word-append, type-word}
+use Rattle.formats.proofs.laws.Link.{word-front, word-take, type-word, type-append}
 use Rattle.formats.proofs.laws.LinkFields.{LinkFields, link-fields}
-use Rattle.catalogue.proofs.laws.assoc.Tri.{le, gt, le?}
 use Rattle.formats.specs.Cube.{Message, readLine}
 use Rattle.formats.specs.Record.{sameBytes}
 use Rattle.formats.proofs.laws.Record.{same-is, same-self}
@@ -58,31 +57,32 @@ link-of-read l (ok (cube.delete names t)) e k = by-test (eqb (getD names 10 0) 3
     by-test false q = let z : _≡_ {A = ℕ} 0 1 = cc in absurd (omega arith)
 link-of-read l (refusal n j) e k = let z : _≡_ {A = ℕ} 0 1 = cc in absurd (omega arith)
 
-type-inside : (l : List ℕ) → 17 + length (typeOf l) ≤ length l → length (word (drop 15 l)) < length (drop 15 l)
-type-inside l h = simp length-drop (omega (arith, ap length (type-word l)))
+-- of any line it is the first 16 bytes of the type that is read
+type-front : (l : List ℕ) → linkType l ≡ take 16 (typeOf l)
+unfolding linkType typeAt
+type-front l = word-front 16 (drop 15 l) ∙ ap (take 16) (type-word l)
 
-take-past : (n : ℕ) (s z : List ℕ) → length s ≤ n → take n (s ++ z) ≡ s ++ take (n - length s) z
-take-past n s z h = let e : n ≡ length s + (n - length s) = omega arith in ap (λ (k : ℕ). take k (s ++ z)) e ∙ take-append-add s z (n - length s)
+module _ (l : List ℕ) (e : kind l ≡ link) where
+  fields : (names ty ad tx : List ℕ) × LinkFields l names ty ad tx
+  unfolding kind
+  fields = link-of-read l (readLine l) refl e
 
--- of 16 bytes or fewer: the type ends before them
-type-cut : (s z : List ℕ) → length (word s) < length s → word (take 16 (s ++ z)) ≡ word (take 16 s)
-type-cut s z h =
-    elim (le? 16 (length s)) [
-      | le p ↦ ap word (take-append-le 16 s z p)
-      | gt p ↦ ap word (take-past 16 s z (omega arith)) ∙ word-append s (take (16 - length s) z) h ∙ ap word (sym (take-all 16 s (omega arith)))
-    ]
+  -- a link's type is the type that was read of it
+  pub link-type : linkType l ≡ typeOf l
+  link-type = type-front l ∙ take-all 16 (typeOf l) (fields .4 .type-fits)
 
-pub link-whole : (l : List ℕ) → kind l ≡ link → WholeLink l
-unfolding kind linkType typeAt
-link-whole l e =
-    let f = link-of-read l (readLine l) refl e .4 in
-    let s : List ℕ = take 16 (drop 15 l) in
-    record {
-      long = f .long;
-      short = f .short;
-      type-clear = subst (Clear false) (word-take s) (clear-take (length (word s)) s (clear-take 16 (drop 15 l) (clear-drop 15 l (f .clear))));
-      ended = λ (z : List ℕ). ap (λ (x : List ℕ). word (take 16 x)) (drop-append-le 15 l z (omega (arith, f .long))) ∙ type-cut (drop 15 l) z (type-inside l (f .type-ends));
-    }
+  type-text : Clear false (typeOf l)
+  type-text = subst (Clear false) (word-take (drop 15 l) ∙ type-word l) (clear-take (length (word (drop 15 l))) (drop 15 l) (clear-drop 15 l (fields .4 .clear)))
+
+  pub link-whole : WholeLink l
+  link-whole =
+      let f = fields .4 in
+      record {
+        long = f .long;
+        short = f .short;
+        type-clear = subst (Clear false) (sym link-type) type-text;
+        ended = λ (z : List ℕ). type-front (l ++ z) ∙ ap (take 16) (type-append l z (omega (arith, f .type-ends))) ∙ sym (type-front l);
+      }
 
 -- ---- a triple
 
