@@ -1,6 +1,7 @@
 -- The type of a link, read byte by byte up to the first blank and filled with zeros.
 use Prim.Native.Nat.{ℕ, zero, suc, _+_, _-_, _≤_, _<_}
 use mathlib.Core.Path.{_≡_, refl, sym, _∙_, ap, ap₂}
+use mathlib.Core.Logic.{inl, inr}
 use mathlib.Core.Bool.{false}
 use mathlib.Core.List.{List, [], _∷_, _++_, append-assoc, append-nil}
 use native.Mathlib.Numerals.{add-one}
@@ -10,7 +11,7 @@ use lib.Seq.{take-suc, take-at, drop-at, drop-cons, set-at, length-take-le}
 use Rattle.columns.proofs.laws.Clear.{Clear, allowed-bounds}
 use Rattle.formats.specs.Link.{word}
 use Rattle.formats.proofs.laws.Link.{word-nil, word-stop, word-more, word-short}
-use Rattle.formats.proofs.laws.Words.{Bytes, clear-bytes, word-inj}
+use Rattle.formats.proofs.laws.Words.{Bytes, clear-bytes, word-inj, Before, byte-order}
 use Rattle.catalogue.specs.Line.{typeAt, filled, keyOf}
 use Rattle.columns.proofs.laws.Clear as clear
 
@@ -107,3 +108,26 @@ module _ (p q t u : List ℕ) (n : length p ≡ length q) (f : length t ≤ 16) 
       let x : p ≡ q = sym (take-at p (filled t) (length p) refl) ∙ ap (take (length p)) w ∙ take-at q (filled u) (length p) (sym n) in
       let y : filled t ≡ filled u = sym (drop-at p (filled t) (length p) refl) ∙ ap (drop (length p)) w ∙ drop-at q (filled u) (length p) (sym n) in
       (x, filled-same t u T U y)
+
+-- ---- a shorter type stands before one that it begins
+
+behind : (p xs ys : List ℕ) → Before xs ys → Before (p ++ xs) (p ++ ys)
+behind [] xs ys h = h
+behind (x ∷ p) xs ys h = inr (refl, behind p xs ys h)
+
+begun-before : (t v : List ℕ) (b m n : ℕ) → 0 < b → 1 ≤ m → Before (t ++ replicate m 0) ((t ++ b ∷ v) ++ replicate n 0)
+begun-before [] v b zero n h k = absurd (omega arith)
+begun-before [] v b (suc m) n h k = inl h
+begun-before (x ∷ t) v b m n h k = inr (refl, begun-before t v b m n h k)
+
+module _ (p t v : List ℕ) (b : ℕ) (fits : length (t ++ b ∷ v) ≤ 16) (P : Bytes p) (T : Clear false t) (U : Clear false (t ++ b ∷ v)) (positive : 0 < b) where
+  shorter : suc (length t) ≤ length (t ++ b ∷ v)
+  shorter = simp length-append (omega arith)
+
+  pub shorter-first : keyOf p t < keyOf p (t ++ b ∷ v)
+  unfolding keyOf filled
+  shorter-first =
+      let u : List ℕ = t ++ b ∷ v in
+      let m : length (p ++ filled t) ≡ length (p ++ filled u) = length-append p (filled t) ∙ ap (λ (k : ℕ). length p + k) (filled-length t (omega (arith, shorter)) ∙ sym (filled-length u fits)) ∙ sym (length-append p (filled u)) in
+      byte-order (p ++ filled t) (p ++ filled u) m (bytes-append p (filled t) P (filled-bytes t T)) (bytes-append p (filled u) P (filled-bytes u U)) .0
+      (behind p (filled t) (filled u) (begun-before t v b (16 - length t) (16 - length u) positive (omega (arith, shorter))))
