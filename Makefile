@@ -1,7 +1,7 @@
 # Builds and installs the library and the program. Proving is rt's work: `rt staticlib` and `rt check` prove before they write.
 PREFIX ?= /usr/local
 DESTDIR ?=
-VERSION = 0.1.0
+VERSION = 0.2.0
 ARCHIVE = target/staticlib/librotmibel.a
 PROGRAM = target/bin/take
 TO = $(DESTDIR)$(PREFIX)
