@@ -34,11 +34,12 @@ extern "C" {
 #define ROTMIBEL_PHASE_COUNT(r) ((size_t)(((r) >> 8) & 0xffff))    /* rotmibel_read_block, READ: the phase lines */
 #define ROTMIBEL_COMMENT_COUNT(r) ((size_t)(((r) >> 24) & 0xffff)) /* rotmibel_read_block, READ: the comments */
 #define ROTMIBEL_BYTES_USED(r) ((size_t)((r) >> 40))               /* rotmibel_read_block, READ: the bytes used */
-#define ROTMIBEL_LINE_NUMBER(r) ((size_t)((r) >> 24))              /* rotmibel_read_block, refused: the line, from 1 */
+/* rotmibel_read_block: the refused line, from 1; 0 of a block that is read, and of one over ROTMIBEL_BLOCK bytes */
+#define ROTMIBEL_LINE_NUMBER(r) ((size_t)(ROTMIBEL_ANSWER(r) == ROTMIBEL_READ ? 0 : (r) >> 24))
 #define ROTMIBEL_LINE_KIND(r) ROTMIBEL_ANSWER(r)                   /* rotmibel_block_line: what the line is */
 #define ROTMIBEL_LINE_PHASE(r) ((size_t)(((r) >> 8) & 0xffff))     /* rotmibel_block_line: the phase line it is or belongs to */
 #define ROTMIBEL_LINE_END(r) ((size_t)(((r) >> 24) & 0xfffff))     /* rotmibel_block_line: where the line ends */
-#define ROTMIBEL_LINE_NEXT(r) ((size_t)((r) >> 44))                /* rotmibel_block_line: the place after it */
+#define ROTMIBEL_LINE_NEXT(r) ((size_t)((r) >> 44))                /* rotmibel_block_line: the place after it, where the next one starts */
 #define ROTMIBEL_PLACE(r) ((size_t)((r) >> 24))                    /* rotmibel_write_header and _record, READ: the place after */
 
 /* Answers. */
@@ -64,7 +65,7 @@ extern "C" {
 #define ROTMIBEL_STORED 20       /* E, LI: nothing was held for its pair, or its source, identifier and type; the line is now */
 #define ROTMIBEL_REPLACED 21     /* E, LI: the held line was of a lower version, or of the same with other bytes; it is replaced */
 #define ROTMIBEL_REPEATED 22     /* E, LI: this very line is held; nothing changes */
-#define ROTMIBEL_OUTDATED 23     /* E, DE: a deletion at or above the version; E, LI: a held line above it; nothing changes */
+#define ROTMIBEL_OUTDATED 23     /* E, DE: its pair's deletion is at or above its version; E, LI: the held line is above it; nothing changes */
 #define ROTMIBEL_REMOVED 24      /* DE: the held line is removed, its deletion stored */
 #define ROTMIBEL_NOTED 25        /* DE: nothing held at or below its version; its deletion is stored */
 #define ROTMIBEL_NOTHING_HELD 26 /* DE with a blank version: nothing held; nothing changes */
@@ -72,8 +73,8 @@ extern "C" {
 #define ROTMIBEL_NOT_HELD 28     /* look-up: not held */
 
 /* What a line of a block is. */
-#define ROTMIBEL_IS_NOTHING 0     /* no line there */
-#define ROTMIBEL_IS_HEADER 40   /* the header */
+#define ROTMIBEL_IS_NOTHING 0  /* no line there */
+#define ROTMIBEL_IS_HEADER 40  /* the header */
 #define ROTMIBEL_IS_PHASE 41   /* a phase line */
 #define ROTMIBEL_IS_COMMENT 42 /* a comment */
 #define ROTMIBEL_IS_CLOSING 43 /* the closing blank line */
@@ -170,14 +171,19 @@ uint64_t rotmibel_write_phase(const uint8_t *record, size_t record_len, uint8_t 
 uint64_t rotmibel_read_block(const uint8_t *block, size_t block_len);
 
 /*
- * What is the line that starts at a place of a block? To walk a block, start at place 0, go on at LINE_NEXT, and stop at IS_CLOSING or
- * IS_NOTHING. The line's bytes are those from the place up to LINE_END; those of a phase line can be handed to rotmibel_read_phase.
+ * The next line of a block. To walk a block, hand in 0 as `before` and then each time the number that the call before answered; the walk is
+ * over at IS_CLOSING, IS_NOTHING or a refusal. The line's bytes are those from LINE_NEXT of `before` (0 to begin) up to LINE_END of what
+ * is returned; those of a phase line can be handed to rotmibel_read_phase. A walk goes over the block once.
  *
- * Returns LINE_KIND (ROTMIBEL_IS_NOTHING at the end, in a block over ROTMIBEL_BLOCK bytes, and at place 0 where that line is not the
- * header), LINE_PHASE (of a phase line its number from 1, of a comment the number of the phase line it belongs to, else 0), LINE_END and
- * LINE_NEXT. A line is told by its own bytes; whether it is accepted, rotmibel_read_block says. Nothing is changed.
+ * Returns LINE_KIND, LINE_PHASE (of a phase line its number from 1, of a comment the number of the phase line it belongs to, else 0),
+ * LINE_END and LINE_NEXT. Or, looked for in this order and with nothing else in the number: BAD_LENGTH (over ROTMIBEL_BLOCK bytes);
+ * OUT_OF_PLACE (before is 0 and the first line, trailing blanks removed, is not the header; an empty block); IS_NOTHING at the end of the
+ * block, after the closing line and after a refusal. Any number may be handed in: one that tells of no line before, or of a place past the
+ * end, or of phase 65,535, which no block has, gets IS_NOTHING.
+ * A line is told by its own bytes; whether it is accepted, rotmibel_read_block says. Of a block that it reads, the walk meets exactly the phase
+ * lines and comments that it counts, and ends at its BYTES_USED. Nothing is changed.
  */
-uint64_t rotmibel_block_line(const uint8_t *block, size_t block_len, size_t at);
+uint64_t rotmibel_block_line(const uint8_t *block, size_t block_len, uint64_t before);
 
 /*
  * Write the header of a phase block and a newline, from place `at` of a buffer on.
@@ -191,7 +197,8 @@ uint64_t rotmibel_write_header(uint8_t *out, size_t out_len, size_t at);
  * Write a phase record as a line of a block and a newline, from place `at` of a buffer on: the place that the call before answered.
  *
  * Answers, looked for in this order: FORM at column 0 (no record); SHORT as above; then as rotmibel_write_phase; else READ, with PLACE.
- * What a header call and record calls wrote reads back as a block with those records in that order and no comments.
+ * What a header call and record calls wrote reads back as a block with those records in that order and no comments, as long as it has at
+ * most ROTMIBEL_BLOCK bytes (the header and 326 records): the calls themselves stop only at the buffer's end.
  */
 uint64_t rotmibel_write_record(const uint8_t *record, size_t record_len, uint8_t *out, size_t out_len, size_t at);
 
@@ -299,7 +306,7 @@ enum rotmibel_phase_number {
 #define ROTMIBEL_EVENT_MAGNITUDE_LETTER 183
 #define ROTMIBEL_EVENT_METHOD 184
 
-/* Where the parts of a delete's record stand: the length of its text 1 byte, identifier 8, source 2, version 1, text. */
+/* Where the parts of a delete's record stand: the length of its text 1 byte, identifier 8, source 2, version 1, text; then zeros. */
 #define ROTMIBEL_DELETE_TEXT_LENGTH 1
 #define ROTMIBEL_DELETE_IDENTIFIER 2
 #define ROTMIBEL_DELETE_SOURCE 10
@@ -307,7 +314,7 @@ enum rotmibel_phase_number {
 #define ROTMIBEL_DELETE_TEXT 13
 
 /* Where the parts of a link's record stand: the lengths of type, address and text 1 byte each, identifier 8, source 2, version 2; then
-   type, address and text, one after the other. */
+   type, address and text, one after the other; then zeros. */
 #define ROTMIBEL_LINK_TYPE_LENGTH 1
 #define ROTMIBEL_LINK_ADDRESS_LENGTH 2
 #define ROTMIBEL_LINK_TEXT_LENGTH 3

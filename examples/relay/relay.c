@@ -165,14 +165,17 @@ static int read_block(const char *name) {
         return 1;
     }
     printf("%zu phase lines, %zu comments, %zu bytes\n", ROTMIBEL_PHASE_COUNT(r), ROTMIBEL_COMMENT_COUNT(r), ROTMIBEL_BYTES_USED(r));
-    for (size_t at = 0;;) {
-        uint64_t line = rotmibel_block_line(block, n, at);
-        size_t size = ROTMIBEL_LINE_END(line) - at;
-        if (ROTMIBEL_LINE_KIND(line) == ROTMIBEL_IS_NOTHING || ROTMIBEL_LINE_KIND(line) == ROTMIBEL_IS_CLOSING) return 0;
-        if (ROTMIBEL_LINE_KIND(line) == ROTMIBEL_IS_PHASE) show_phase(block + at, size);
-        if (ROTMIBEL_LINE_KIND(line) == ROTMIBEL_IS_COMMENT)
-            printf("  of phase %zu:%.*s\n", ROTMIBEL_LINE_PHASE(line), (int)size, (const char *)block + at);
-        at = ROTMIBEL_LINE_NEXT(line);
+    for (uint64_t before = 0;;) {
+        uint64_t line = rotmibel_block_line(block, n, before);
+        const uint8_t *from = block + ROTMIBEL_LINE_NEXT(before);
+        size_t size = (size_t)(block + ROTMIBEL_LINE_END(line) - from);
+        switch (ROTMIBEL_LINE_KIND(line)) {
+        case ROTMIBEL_IS_HEADER: break;
+        case ROTMIBEL_IS_PHASE: show_phase(from, size); break;
+        case ROTMIBEL_IS_COMMENT: printf("  of phase %zu:%.*s\n", ROTMIBEL_LINE_PHASE(line), (int)size, (const char *)from); break;
+        default: return 0; /* the closing line, or the end */
+        }
+        before = line;
     }
 }
 

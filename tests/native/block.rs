@@ -118,24 +118,38 @@ pub fn read(block: &[u8]) -> Result<(usize, usize, usize), (u8, usize, usize)> {
     Ok((phases, comments, used))
 }
 
-/// What the line at a place is: kind (40 to 43, 0 for none), phase, end, place after.
-pub fn line_at(block: &[u8], at: usize) -> (u8, usize, usize, usize) {
-    if block.len() > 65536 || at >= block.len() {
-        return (0, 0, 0, 0);
+/// A walk's answer by its parts: kind (40 to 43; a refusal; 0 for no line), phase, end, place after.
+pub struct Told {
+    pub kind: u8,
+    pub phase: usize,
+    pub end: usize,
+    pub next: usize,
+}
+
+const NO_LINE: Told = Told { kind: 0, phase: 0, end: 0, next: 0 };
+const LAST_PHASE: usize = 65534;
+
+/// The line after the one that `before` tells of; the first line where nothing came before.
+pub fn line_after(block: &[u8], before: Option<Told>) -> Told {
+    if block.len() > 65536 {
+        return Told { kind: LENGTH, ..NO_LINE };
     }
-    let end = block[at..].iter().position(|&b| b == b'\n').map_or(block.len(), |i| at + i);
+    let at = before.as_ref().map_or(0, |b| b.next);
+    let end = at + block.iter().skip(at).position(|&b| b == b'\n').unwrap_or(block.len().saturating_sub(at));
     let next = if end < block.len() { end + 1 } else { end };
-    let line = &block[at..end];
-    if at == 0 {
-        return if trimmed(line) == header() { (40, 0, end, next) } else { (0, 0, 0, 0) };
+    let Some(before) = before else {
+        let headed = trimmed(&block[..end]) == header();
+        return if headed { Told { kind: 40, phase: 0, end, next } } else { Told { kind: OUT_OF_PLACE, ..NO_LINE } };
+    };
+    if !(40..=42).contains(&before.kind) || before.phase > LAST_PHASE || at >= block.len() {
+        return NO_LINE;
     }
-    let before = block[..at].split_inclusive(|&b| b == b'\n').skip(1);
-    let phases = before.filter(|l| kind(l.strip_suffix(b"\n").unwrap_or(l)) == Kind::Phase).count();
-    match kind(line) {
-        Kind::Closing => (43, 0, end, next),
-        Kind::Comment => (42, phases, end, next),
-        Kind::Phase => (41, phases + 1, end, next),
-    }
+    let (kind, phase) = match kind(&block[at..end]) {
+        Kind::Closing => (43, 0),
+        Kind::Comment => (42, before.phase),
+        Kind::Phase => (41, before.phase + 1),
+    };
+    Told { kind, phase, end, next }
 }
 
 /// The bytes from a place on, one of them kept for the newline.

@@ -10,7 +10,7 @@ mod raw {
         pub fn rotmibel_look_up(room: *const u8, n: usize, s: *const u8, m: usize, i: *const u8, k: usize) -> u64;
         pub fn rotmibel_in_order(room: *const u8, n: usize) -> u64;
         pub fn rotmibel_read_block(block: *const u8, n: usize) -> u64;
-        pub fn rotmibel_block_line(block: *const u8, n: usize, at: usize) -> u64;
+        pub fn rotmibel_block_line(block: *const u8, n: usize, before: u64) -> u64;
         pub fn rotmibel_write_header(out: *mut u8, n: usize, at: usize) -> u64;
         pub fn rotmibel_write_record(from: *const u8, n: usize, out: *mut u8, m: usize, at: usize) -> u64;
     }
@@ -58,8 +58,8 @@ pub fn in_order(room: &[u8]) -> u64 {
 pub fn read_block(block: &[u8]) -> u64 {
     unsafe { raw::rotmibel_read_block(block.as_ptr(), block.len()) }
 }
-pub fn block_line(block: &[u8], at: usize) -> u64 {
-    unsafe { raw::rotmibel_block_line(block.as_ptr(), block.len(), at) }
+pub fn block_line(block: &[u8], before: u64) -> u64 {
+    unsafe { raw::rotmibel_block_line(block.as_ptr(), block.len(), before) }
 }
 pub fn write_header(out: &[u8], at: usize) -> (u64, Vec<u8>) {
     lent(out, |p, n| unsafe { raw::rotmibel_write_header(p, n, at) })
@@ -68,7 +68,14 @@ pub fn write_record(from: &[u8], out: &[u8], at: usize) -> (u64, Vec<u8>) {
     lent(out, |p, n| unsafe { raw::rotmibel_write_record(from.as_ptr(), from.len(), p, n, at) })
 }
 /// A call with a null pointer and length 0 for everything that it is lent.
-pub fn nulls() -> [u64; 3] {
+pub fn nulls() -> [u64; 4] {
     let (p, m) = (std::ptr::null(), std::ptr::null_mut());
-    unsafe { [raw::rotmibel_read_line(p, 0, m, 0), raw::rotmibel_read_block(p, 0), raw::rotmibel_take(m, 0, p, 0)] }
+    unsafe {
+        [
+            raw::rotmibel_read_line(p, 0, m, 0),
+            raw::rotmibel_read_block(p, 0),
+            raw::rotmibel_block_line(p, 0, 0),
+            raw::rotmibel_take(m, 0, p, 0),
+        ]
+    }
 }

@@ -11,7 +11,7 @@ fn compare_cube(g: &mut Group, line: &[u8], out: &[u8]) {
     g.same(got, wanted, &[line]);
 }
 
-fn compare_phase(g: &mut Group, line: &[u8], out: &[u8]) {
+pub fn compare_phase(g: &mut Group, line: &[u8], out: &[u8]) {
     let wanted = written(record_of(phase::read_line(line), phase::RECORD, out.len()), out, 0, |n| n as u64);
     let got = calls::read_phase(line, out);
     g.met(got.0);

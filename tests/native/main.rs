@@ -5,6 +5,7 @@ mod blocks;
 mod calls;
 mod compare;
 mod cube;
+mod example;
 mod lines;
 mod link;
 mod make;
@@ -15,13 +16,15 @@ mod rooms;
 
 use blocks::*;
 use compare::{parts, Group};
+use example::*;
 use lines::*;
 use make::Rng;
 use rooms::*;
 
 fn null_pointers() -> Group {
     let mut g = Group::new("null pointers with length 0");
-    let wanted = [parts(number::SHORT, 0, 0), parts(block::OUT_OF_PLACE, 0, 1), parts(number::SHORT, 0, 0)];
+    let (short, unplaced) = (parts(number::SHORT, 0, 0), parts(block::OUT_OF_PLACE, 0, 0));
+    let wanted = [short, parts(block::OUT_OF_PLACE, 0, 1), unplaced, short];
     for (got, wanted) in calls::nulls().into_iter().zip(wanted) {
         g.same(got, wanted, &[]);
     }
@@ -43,6 +46,8 @@ fn main() {
         phase_records(&mut r, 150_000 * times),
         blocks(&mut r, 20_000 * times),
         long_blocks(&mut r),
+        example_lines(&mut r),
+        example_blocks(),
         block_writing(&mut r, 15_000 * times),
         link_edges(&mut r),
         taking(&mut r, 40_000 * times),

@@ -58,6 +58,17 @@ const FIELDS: [(usize, usize, Field); 36] = [
     (194, 199, dec(1)),
 ];
 
+/// The decimal fields: first and last column, digits after the point, and the ends of the range, or of what the column holds.
+pub fn decimals() -> impl Iterator<Item = (usize, usize, usize, i64, i64)> {
+    FIELDS.into_iter().filter_map(|(first, last, field)| match field {
+        Dec(d, low, high) => {
+            let w = (last - first + 1) as u32;
+            Some((first, last, d, low.max(1 - 10i64.pow(w - 2)), high.min(10i64.pow(w - 1) - 1)))
+        }
+        _ => None,
+    })
+}
+
 /// The record as it is filled or read: its next number and its next text byte.
 struct Places {
     number: usize,

@@ -70,16 +70,9 @@ const ORIGIN: [u8; 19] = *b" (#OrigID 12345678)";
 
 const MEASURE: [u8; 33] = *b" (#MEASURE CODA_DURATION=5.4+0.2)";
 
-// A line that is not in document 003, with a value in every column of the table.
-const FULL: [u8; 199] =
-    *b"ABC12 123.45 234.5 PKPbcdif 12:34:56.789 -12.3 123.4 -23.4 1234.5 -123.4 TAS 123.4 1234567.8 12.34 mci mbmle<-1.2 12345678901 AGNCY DEPLOYED 00 AUTHR REPTR BHZ BHN c -12.3456 -123.4567 12345.6 1234.5";
-
 pub const PHASES: usize = 19;
 
-// The block's lines, from 0: the header is line 0, the comments are lines 2 and 21, the closing line is line 22.
-pub const LINES: usize = 23;
-
-// The header or a phase line by its number; the full line for any other.
+// The header or a phase line by its number in the block, from 0: the comments are lines 2 and 21, the closing line is line 22.
 fn wide_line(line: usize) -> [u8; 199] {
     match line {
         0 => HEADER,
@@ -101,13 +94,12 @@ fn wide_line(line: usize) -> [u8; 199] {
         17 => VYHS_PN,
         18 => VYHS_SN,
         19 => DPC_PG,
-        20 => DPC_SG,
-        _ => FULL,
+        _ => DPC_SG,
     }
 }
 
-// Where a line starts in the block, and the block's end.
-pub fn line_start(line: usize) -> usize
+// Where a line starts in the block.
+fn line_start(line: usize) -> usize
     ensures { λ r. ⌜ r ≤ 4055 ⌝ }
 {
     match line {
@@ -115,9 +107,7 @@ pub fn line_start(line: usize) -> usize
         1 => 200,
         2 => 400,
         3..=20 => line * 200 - 180,
-        21 => 4020,
-        22 => 4054,
-        _ => 4055,
+        _ => 4020,
     }
 }
 
@@ -150,30 +140,10 @@ pub fn block() -> [u8; 4055] {
     out
 }
 
-// Such a line with blanks to 210 bytes.
-fn widened(line: usize) -> [u8; 210] {
-    let bytes = wide_line(line);
-    let mut out = [b' '; 210];
-    let mut i = 0;
-    while i < 199 {
-        out[i] = bytes[i];
-        i += 1;
-    }
-    out
-}
-
-// The phase lines, from 0, and after them the full line.
-pub fn phase_line(phase: usize) -> [u8; 210] {
+// The phase lines, from 0.
+pub fn phase_line(phase: usize) -> [u8; 199] {
     if phase == 0 {
-        return widened(1);
+        return wide_line(1);
     }
-    widened(std::num::wrapping_add_usize(phase, 2))
-}
-
-pub fn full_line() -> [u8; 210] {
-    widened(LINES)
-}
-
-pub fn header_line() -> [u8; 210] {
-    widened(0)
+    wide_line(std::num::wrapping_add_usize(phase, 2))
 }

@@ -1,6 +1,7 @@
-// What the program prints: answers, and the values of a phase line by name.
+// What the program prints: answers, and the values of a phase record by name. docs/RECORDS.md has the places of its bytes.
 use super::rows::row;
-use super::second::Reading;
+use columns::word::read_word;
+use formats::record::signed_of;
 use libc::STDOUT_FILENO;
 ghost use Prim.Native.Nat.{_≤_};
 
@@ -40,16 +41,6 @@ pub fn say_answer(numbers: &[usize]) {
     }
 }
 
-// An input on which the readers differ, and what each answers.
-pub fn say_difference(input: &[u8], library: &[usize], second: &[usize]) {
-    say(b"differ on\n");
-    say(input);
-    say(b"\nlibrary\n");
-    say_answer(library);
-    say(b"second\n");
-    say_answer(second);
-}
-
 fn say_number(flag: u8, v: i64) {
     if flag == 0 {
         say(b"missing\n");
@@ -62,21 +53,23 @@ fn say_number(flag: u8, v: i64) {
     say(b"\n");
 }
 
-fn say_numbers(r: Reading) {
+fn say_numbers(record: &[u8; 231]) {
+    let all = &record[..];
     let mut i = 0;
     while i < 18 {
+        let at = 19 + 8 * i;
         say(row(&NUMBER_NAMES, i));
         say(b" ");
-        say_number(r.flags[i], r.values[i]);
+        say_number(all[1 + i], signed_of(read_word(&all[at..at + 8])));
         i += 1;
     }
 }
 
-// Bytes of a record's text, in quotes.
-fn say_quoted(text: &[u8; 68], from: usize, end: usize)
-    requires { ⌜ (from ≤ end) × (end ≤ 68) ⌝ }
+// Bytes of a record, in quotes.
+fn say_quoted(record: &[u8; 231], from: usize, end: usize)
+    requires { ⌜ (from ≤ end) × (end ≤ 231) ⌝ }
 {
-    let all = &text[..];
+    let all = &record[..];
     say(b"\"");
     say(&all[from..end]);
     say(b"\"\n");
@@ -91,30 +84,28 @@ fn digit(b: u8) -> usize
     (b - 48) as usize % 10
 }
 
-fn say_texts(r: Reading) {
-    let text = r.text;
-    let mut from = 0;
+fn say_texts(record: &[u8; 231]) {
+    let mut from = 163;
     let mut i = 0;
     while i < 20 {
         let end = from + digit(TEXT_WIDTHS[i]);
-        if 68 < end {
+        if 231 < end {
             return;
         }
         say(row(&TEXT_NAMES, i));
         say(b" ");
-        say_quoted(&text, from, end);
+        say_quoted(record, from, end);
         from = end;
         i += 1;
     }
 }
 
 // A phase line by its number: the answer, and the record.
-pub fn say_phase(number: usize, r: Reading) {
-    let answer = [r.answer as usize, r.column];
+pub fn say_phase(number: usize, answer: &[usize; 2], record: &[u8; 231]) {
     say(b"phase line ");
     say_count(number as u64);
     say(b"\n");
-    say_answer(&answer);
-    say_texts(r);
-    say_numbers(r);
+    say_answer(&answer[..]);
+    say_texts(record);
+    say_numbers(record);
 }

@@ -5,8 +5,7 @@ use mathlib.Core.List.{List, [], _∷_}
 use mathlib.Core.Option.{Option, none, some}
 use lib.Dec.{ltb, leb, eqb}
 use lib.ListN.{length}
-use Rattle.columns.specs.Bytes.{barred}
-use Rattle.formats.specs.Record.{sameBytes}
+use Rattle.columns.specs.Bytes.{barred, sameBytes}
 use Rattle.catalogue.specs.Assoc.{find}
 use Rattle.catalogue.specs.Line.{Kind, event, delete, blank, link, refused, kind, version, key, deletionKey, deletionVersion, linkEntry, linkLine, linkKey}
 use Rattle.catalogue.specs.Catalogue.{Catalogue, named}

@@ -8,7 +8,7 @@ use lib.ListN.{length, take, drop, getD, replicate}
 use Rattle.columns.specs.Answer.{pick, Answer, ok, refusal}
 use Rattle.formats.specs.Cube.{Message, readLine}
 use Rattle.formats.specs.Link.{word}
-use Rattle.formats.specs.Record.{wordOf}
+use Rattle.columns.specs.Word.{wordOf}
 use Rattle.formats.specs.Cube as cube
 
 -- acceptable as an E line, as a DE line with a version, as a DE line with a blank version, as an LI line; refused

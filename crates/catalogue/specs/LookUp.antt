@@ -4,8 +4,7 @@ use mathlib.Core.List.{List, [], _++_}
 use mathlib.Core.Option.{Option, none, some}
 use lib.Dec.{eqb}
 use lib.ListN.{length, take}
-use Rattle.columns.specs.Answer.{pick}
-use Rattle.formats.specs.Cube.{wrongLength}
+use Rattle.columns.specs.Answer.{pick, wrongLength}
 use Rattle.catalogue.specs.declared.Looked.{Looked}
 use Rattle.catalogue.specs.Answers.{isHeld, notHeld}
 use Rattle.catalogue.specs.Assoc.{find, below}

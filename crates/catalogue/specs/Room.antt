@@ -7,7 +7,7 @@ use lib.Dec.{leb}
 use lib.ListN.{length, take, drop, replicate}
 use Rattle.columns.specs.Answer.{pick, tooShort}
 use Rattle.formats.specs.Cube.{readLine}
-use Rattle.formats.specs.Record.{sameBytes}
+use Rattle.columns.specs.Bytes.{sameBytes}
 use Rattle.catalogue.specs.declared.Call.{Call}
 use Rattle.catalogue.specs.Answers.{notInOrder}
 use Rattle.catalogue.specs.Line.{refusedAt}

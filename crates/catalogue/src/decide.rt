@@ -8,7 +8,7 @@ use super::section::Seek;
 use super::section::entry_at;
 use super::section::entry_byte;
 use super::section::look;
-use formats::record::same;
+use columns::bytes::same;
 ghost use mathlib.Core.Path.{_≡_};
 ghost use mathlib.Core.Bool.{true};
 ghost use mathlib.Core.List.{List};

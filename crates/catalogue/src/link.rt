@@ -8,7 +8,7 @@ use super::section::Section;
 use super::section::Seek;
 use super::section::entry_at;
 use super::splice::copy_in;
-use formats::record::same;
+use columns::bytes::same;
 ghost use mathlib.Core.Path.{_≡_};
 ghost use mathlib.Core.List.{List};
 ghost use Prim.Native.Nat.{ℕ, _≤_};

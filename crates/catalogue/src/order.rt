@@ -17,6 +17,7 @@ use super::section::key_of;
 use super::section::met;
 use super::take::take_ordered;
 use columns::bytes::first_barred;
+use columns::bytes::same;
 use formats::judge::is_event;
 use formats::judge::is_link;
 ghost use mathlib.Core.Path.{_≡_};
@@ -55,19 +56,18 @@ fn deletions_allowed(s: &[u8], of: Section) -> bool
     true
 }
 
-// Whether the bytes from `from` up to `to` are zero.
+// Whether the bytes from `from` up to `to` are zero: the first is, and each is as the one before it.
 fn zeros(s: &[u8], from: usize, to: usize) -> bool
     requires { ⌜ (from ≤ to) × (to ≤ length (now s)) ⌝ }
     ensures { λ r. ⌜ r ≡ allZero (take (to - from) (drop from (now (s .entry)))) ⌝ }
 {
-    let mut i = from;
-    while i < to {
-        if s[i] != 0 {
-            return false;
-        }
-        i += 1;
+    if from == to {
+        return true;
     }
-    true
+    if s[from] != 0 {
+        return false;
+    }
+    same(&s[from..to - 1], &s[from + 1..to])
 }
 
 // Whether a link's entry is that of an acceptable LI line.

@@ -3,12 +3,15 @@ pub mod Answers
 pub mod Places
 pub mod Bytes
 pub mod Clear
+pub mod Tri
+pub mod Word
 pub mod Number
 pub mod NumberFits
 pub mod Written
 pub mod NumberBack
+pub mod Form
 pub mod Ranges
-pub mod ClockBack
+pub mod GroupBack
 pub mod Cursor
 pub mod Table
 pub mod Reader
@@ -19,3 +22,5 @@ pub mod Accepted
 pub mod Stretch
 pub mod Bounds
 pub mod Judge
+pub mod Row
+pub mod Marked

@@ -1,8 +1,10 @@
 -- The bytes of a line. Document 01, "Numbers in columns": text bytes are codes 32 to 126, any other byte is barred.
-use Prim.Native.Nat.{ℕ, _+_}
+use mathlib.Core.Path.{_≡_}
+use Prim.Native.Nat.{ℕ, _+_, _<_}
 use mathlib.Core.List.{List, [], _∷_}
 use mathlib.Core.Bool.{Bool, true, false, _&&_}
 use lib.Dec.{leb, eqb}
+use lib.ListN.{getD}
 use Rattle.columns.specs.Answer.{pick}
 
 abbrev pub isText : ℕ → Bool
@@ -34,6 +36,10 @@ isAllowed bars b = isText b && pick bars (pick (isBracket b) false true) true
 abbrev pub inside : ℕ → ℕ → ℕ → Bool
 inside from to column = leb from column && leb column to
 
+-- each of the first n bytes may stand in any column
+abbrev pub Plain : ℕ → List ℕ → Type 0
+Plain n s = (j : ℕ) → j < n → isAllowed true (getD s j 0) ≡ true
+
 -- the lowest column with a barred byte, brackets barred in the columns `from` to `to`; 0 where there is none
 -- the bytes are those from the given column on
 unfoldable pub barred : ℕ → ℕ → ℕ → List ℕ → ℕ
@@ -45,3 +51,10 @@ barred from to column (b ∷ s) =
 unfoldable pub member : ℕ → List ℕ → Bool
 member b [] = false
 member b (x ∷ s) = pick (eqb b x) true (member b s)
+
+-- equal byte for byte
+unfoldable pub sameBytes : List ℕ → List ℕ → Bool
+sameBytes [] [] = true
+sameBytes [] (b ∷ t) = false
+sameBytes (a ∷ s) [] = false
+sameBytes (a ∷ s) (b ∷ t) = pick (eqb a b) (sameBytes s t) false

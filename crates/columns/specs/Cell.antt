@@ -7,7 +7,7 @@ use lib.ListN.{length}
 use lib.Dec.{T}
 use Rattle.columns.specs.Answer.{Answer, ok, refusal}
 use Rattle.columns.specs.Column.{missing, given, Rec, Col, width, goodCol}
-use Rattle.columns.specs.Clock.{clockRec}
+use Rattle.columns.specs.Group.{groupRec}
 use Rattle.columns.specs.Reading.{nothing, oneNumber, someText}
 use Rattle.columns.specs.Table.{flagsOf, valuesOf, placed, outcomeOf}
 use Rattle.columns.specs.declared.Outcome.{Outcome}
@@ -19,32 +19,32 @@ use Rattle.columns.specs.declared.cursor.CellRead.{CellRead}
 abbrev pub cellRec : Cell → List ℕ → Rec
 cellRec C.Absent f = oneNumber missing
 cellRec (C.Number v) f = oneNumber (given v)
-cellRec C.NoTime f = clockRec missing missing missing
-cellRec (C.Clock h m s) f = clockRec (given h) (given m) (given s)
+cellRec C.NoThree f = groupRec missing missing missing
+cellRec (C.Three x y z) f = groupRec (given x) (given y) (given z)
 cellRec C.Chars f = someText f
 cellRec C.Gap f = nothing
-cellRec (C.Refused n) f = nothing
+cellRec (C.Refused n k) f = nothing
 
--- the answer that it stands for, after the first `at` columns
-abbrev pub cellAnswer : Cell → ℕ → List ℕ → Answer Rec
-cellAnswer C.Absent at f = ok (cellRec C.Absent f)
-cellAnswer (C.Number v) at f = ok (cellRec (C.Number v) f)
-cellAnswer C.NoTime at f = ok (cellRec C.NoTime f)
-cellAnswer (C.Clock h m s) at f = ok (cellRec (C.Clock h m s) f)
-cellAnswer C.Chars at f = ok (cellRec C.Chars f)
-cellAnswer C.Gap at f = ok (cellRec C.Gap f)
-cellAnswer (C.Refused n) at f = refusal n (at + 1)
+-- the answer that it stands for: document 01's number and column for a refusal
+abbrev pub cellAnswer : Cell → List ℕ → Answer Rec
+cellAnswer C.Absent f = ok (cellRec C.Absent f)
+cellAnswer (C.Number v) f = ok (cellRec (C.Number v) f)
+cellAnswer C.NoThree f = ok (cellRec C.NoThree f)
+cellAnswer (C.Three x y z) f = ok (cellRec (C.Three x y z) f)
+cellAnswer C.Chars f = ok (cellRec C.Chars f)
+cellAnswer C.Gap f = ok (cellRec C.Gap f)
+cellAnswer (C.Refused n k) f = refusal n k
 
 -- what the cursor hands back: the answer of the column, and itself moved on by the column's width
 pub record Found (a : Answer Rec) (r : CellRead) (at w : ℕ) (f : List ℕ) : Type 0 where
-  pub answer : cellAnswer (r .cell) at f ≡ a
+  pub answer : cellAnswer (r .cell) f ≡ a
   pub next : r .next .at ≡ at + w
 
--- a column that can be read: its w bytes from `at` lie in the line, and the record has as many flags as values, k of them read
-pub record Readable (c : Col) (w at line k nf nv : ℕ) : Type 0 where
+-- a column that can be read: its bytes from `at` lie in the line, and the record has as many flags as values, k of them read
+pub record Readable (c : Col) (at line k nf nv : ℕ) : Type 0 where
   pub fine : T (goodCol c)
-  pub wide : w ≡ width c
-  pub fits : at + w ≤ line
+  pub fits : at + width c ≤ line
+  pub low : line ≤ 4096
   pub same : nf ≡ nv
   pub seen : k ≤ nf
 

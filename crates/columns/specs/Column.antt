@@ -1,11 +1,16 @@
 -- A line format is a list of columns; a record is its numbers and its text bytes, in the order of the columns.
 use Prim.Native.Nat.{ℕ, _+_}
 use mathlib.Core.List.{List, [], _∷_, _++_}
-use mathlib.Core.Bool.{Bool, true, false, _&&_}
-use lib.IntN.{ℤ}
-use lib.Signed.{ltZ}
+use mathlib.Core.Bool.{Bool, true, false, not, _&&_}
+use lib.IntN.{ℤ, pos}
+use lib.Signed.{ltZ, leZ}
 use lib.Dec.{leb, ltb}
 use Rattle.columns.specs.Answer.{pick}
+use Rattle.columns.specs.Number.{formWidth, goodForm}
+use Rattle.columns.specs.declared.number.Form.{Form}
+use Rattle.columns.specs.declared.number.Form.the-variants as N
+use Rattle.columns.specs.declared.group.Part.{Part}
+use Rattle.columns.specs.declared.group.Group.{Group}
 
 -- a number of a record: document 01 keeps missing apart from zero
 pub data Slot : Type 0 where
@@ -19,8 +24,12 @@ pub record Rec : Type 0 where
 abbrev pub joined : Rec → Rec → Rec
 joined a b = record { numbers = a .numbers ++ b .numbers; chars = a .chars ++ b .chars }
 
--- the numbers that a column may hold
+-- ---- ranges: the numbers that a column may hold
+
+-- whatever the column holds; whatever it holds from zero on; from one end to the other
 pub data Range : Type 0 where
+  asHeld : Range
+  notNegative : Range
   span : ℤ → ℤ → Range
 
 abbrev pub within : ℤ → ℤ → ℤ → Bool
@@ -28,64 +37,109 @@ within lo hi v = pick (ltZ v lo) false (pick (ltZ hi v) false true)
 
 -- the range step: whether a column may hold v, after the numbers that were read before it
 unfoldable pub allowed : Range → List Slot → ℤ → Bool
+allowed asHeld seen v = true
+allowed notNegative seen v = leZ (pos 0) v
 allowed (span lo hi) seen v = within lo hi v
 
--- how a column may be left: a required number is not missing, a required text does not begin with a blank
+-- the range of a number of a group
+abbrev pub partRange : Part → Range
+partRange p = span (p .low) (p .high)
+
+-- ---- columns
+
+-- a number may have to be there
 abbrev pub required : Bool
 required = true
 
 abbrev pub optional : Bool
 optional = false
 
--- whether a text column bars brackets
-abbrev pub noBrackets : Bool
-noBrackets = true
+-- what a text may be: any text; text with no brackets; text that does not begin with a blank
+pub data Rule : Type 0 where
+  anyText : Rule
+  noBrackets : Rule
+  notBlankFirst : Rule
 
-abbrev pub anyText : Bool
-anyText = false
-
--- iW and fW.D with their ranges; text; a letter of a set; a time of day, i2:i2:f6.3; a separator, which is blank
+-- a number; text; a letter of a set; a group; a stretch of blanks
 pub data Col : Type 0 where
-  integer : ℕ → Bool → Range → Col
-  decimal : ℕ → ℕ → Bool → Range → Col
-  text : ℕ → Bool → Bool → Col
+  numeric : Form → Bool → Range → Col
+  text : ℕ → Rule → Col
   letter : List ℕ → Col
-  clock : Col
-  separator : Col
+  group : Group → Col
+  blank : ℕ → Col
 
--- bytes of the line, numbers of the record and text bytes of the record that a column takes
+-- iW and fW.D
+abbrev pub integer : ℕ → Bool → Range → Col
+integer w q g = numeric (N.Integer w) q g
+
+abbrev pub decimal : ℕ → ℕ → Bool → Range → Col
+decimal w d q g = numeric (N.Decimal w d) q g
+
+-- the clock time i2:i2:f6.3: hour and minute as for E, thousandths of a second. Document 01, "The phase line"
+abbrev pub clockTime : Group
+clockTime =
+    record {
+      mark = 58;
+      first = record { form = N.Integer 2; low = pos 0; high = pos 23 };
+      second = record { form = N.Integer 2; low = pos 0; high = pos 59 };
+      third = record { form = N.Decimal 6 3; low = pos 0; high = pos 59999 };
+    }
+
+abbrev pub clock : Col
+clock = group clockTime
+
+-- ---- bytes of the line, numbers of the record and text bytes of the record that a column takes
+
+-- where the parts of a group begin
+abbrev pub firstWidth : Group → ℕ
+firstWidth g = formWidth (g .first .form)
+
+abbrev pub secondStart : Group → ℕ
+secondStart g = firstWidth g + 1
+
+abbrev pub secondEnd : Group → ℕ
+secondEnd g = secondStart g + formWidth (g .second .form)
+
+abbrev pub thirdStart : Group → ℕ
+thirdStart g = secondEnd g + 1
+
+abbrev pub groupWidth : Group → ℕ
+groupWidth g = thirdStart g + formWidth (g .third .form)
+
 abbrev pub width : Col → ℕ
-width (integer w q g) = w
-width (decimal w d q g) = w
-width (text w q x) = w
+width (numeric f q g) = formWidth f
+width (text w r) = w
 width (letter s) = 1
-width clock = 12
-width separator = 1
+width (group g) = groupWidth g
+width (blank w) = w
 
 abbrev pub slots : Col → ℕ
-slots (integer w q g) = 1
-slots (decimal w d q g) = 1
-slots (text w q x) = 0
+slots (numeric f q g) = 1
+slots (text w r) = 0
 slots (letter s) = 0
-slots clock = 3
-slots separator = 0
+slots (group g) = 3
+slots (blank w) = 0
 
 abbrev pub texts : Col → ℕ
-texts (integer w q g) = 0
-texts (decimal w d q g) = 0
-texts (text w q x) = w
+texts (numeric f q g) = 0
+texts (text w r) = w
 texts (letter s) = 1
-texts clock = 0
-texts separator = 0
+texts (group g) = 0
+texts (blank w) = 0
 
--- well-formed: iW of 1 to 18 columns; fW.D of at most 18, with places for a minus, a digit and the point
+-- well-formed: the forms of numbers are; text has a byte; a group's mark is a mark byte and its numbers are not negative
+abbrev pub goodPart : Part → Bool
+goodPart p = goodForm (p .form) && not (ltZ (p .low) (pos 0))
+
+abbrev pub goodGroup : Group → Bool
+goodGroup g = (leb 45 (g .mark) && leb (g .mark) 58) && (goodPart (g .first) && (goodPart (g .second) && goodPart (g .third)))
+
 abbrev pub goodCol : Col → Bool
-goodCol (integer w q g) = leb 1 w && leb w 18
-goodCol (decimal w d q g) = leb (d + 3) w && leb w 18
-goodCol (text w q x) = leb 1 w
+goodCol (numeric f q g) = goodForm f
+goodCol (text w r) = leb 1 w
 goodCol (letter s) = true
-goodCol clock = true
-goodCol separator = true
+goodCol (group g) = goodGroup g
+goodCol (blank w) = true
 
 unfoldable pub good : List Col → Bool
 good [] = true
@@ -103,14 +157,20 @@ unfoldable pub allTexts : List Col → ℕ
 allTexts [] = 0
 allTexts (c ∷ cs) = texts c + allTexts cs
 
+-- ---- brackets
+
+abbrev pub ruleBars : Rule → Bool
+ruleBars anyText = false
+ruleBars noBrackets = true
+ruleBars notBlankFirst = false
+
 -- whether a column bars brackets
 abbrev pub barsOf : Col → Bool
-barsOf (integer w q g) = false
-barsOf (decimal w d q g) = false
-barsOf (text w q x) = x
+barsOf (numeric f q g) = false
+barsOf (text w r) = ruleBars r
 barsOf (letter s) = false
-barsOf clock = false
-barsOf separator = false
+barsOf (group g) = false
+barsOf (blank w) = false
 
 -- the columns that bar brackets are those of the stretch `from` to `to`, and no other; the first comes after `at` bytes
 abbrev pub inStretch : Col → ℕ → ℕ → ℕ → Bool

@@ -1,10 +1,12 @@
 pub mod Answer
 pub mod Bytes
+pub mod Word
 pub mod Number
 pub mod Column
-pub mod Clock
+pub mod Group
 pub mod Reading
 pub mod Writing
 pub mod Table
 pub mod Cell
 pub mod Judge
+pub mod Row

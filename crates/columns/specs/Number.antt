@@ -1,5 +1,6 @@
 -- Number fields iW and fW.D, over the bytes in their columns. Document 01, "Numbers in columns".
-use Prim.Native.Nat.{ℕ, zero, suc, _+_, _-_, _*_, _/_, _%_, _^_}
+use mathlib.Core.Path.{_≡_}
+use Prim.Native.Nat.{ℕ, zero, suc, _+_, _-_, _*_, _/_, _%_, _^_, _<_}
 use mathlib.Core.List.{List, [], _∷_, _++_}
 use mathlib.Core.Bool.{Bool, true, false, _&&_}
 use lib.IntN.{ℤ, pos, negsuc, negℤ, natAbs}
@@ -7,13 +8,17 @@ use lib.Signed.{ltZ}
 use lib.Dec.{leb, ltb, eqb}
 use lib.ListN.{length, take, drop, replicate}
 use Rattle.columns.specs.Answer.{pick}
-use Rattle.columns.specs.Bytes.{isDigit, isNone, trim, allBlank}
+use Rattle.columns.specs.Bytes.{isDigit, trim, allBlank}
 use Rattle.columns.specs.declared.number.Digits.{Digits}
 use Rattle.columns.specs.declared.number.Digits.the-variants as D
 use Rattle.columns.specs.declared.number.Scan.{Scan}
 use Rattle.columns.specs.declared.number.Scan.the-variants as S
 use Rattle.columns.specs.declared.number.Field.{Field}
 use Rattle.columns.specs.declared.number.Field.the-variants as F
+use Rattle.columns.specs.declared.number.Plain.{Plain}
+use Rattle.columns.specs.declared.number.Plain.the-variants as P
+use Rattle.columns.specs.declared.number.Form.{Form}
+use Rattle.columns.specs.declared.number.Form.the-variants as N
 use Rattle.columns.specs.declared.written.Pen.{Pen}
 
 -- ---- read
@@ -115,6 +120,49 @@ unfoldable pub decBytes : ℕ → ℕ → ℤ → List ℕ
 decBytes w d v =
     rightAligned (w - (d + 1)) (minusOf (isNeg v) ++ plainDigits (w - (d + 1)) (natAbs v / 10 ^ d))
     ++ 46 ∷ digitsOf d (natAbs v)
+
+-- ---- blanks and then digits, in one walk: what most integer fields are
+
+-- after digits that make n, or after blanks only
+unfoldable pub plainScan : Bool → ℕ → List ℕ → Plain
+plainScan any n [] = pick any (P.Number n) P.Blank
+plainScan any n (b ∷ s) =
+    pick (isDigit b) (plainScan true (n * 10 + (b - 48)) s)
+    (pick any P.Other (pick (eqb b 32) (plainScan any n s) P.Other))
+
+-- what such a walk says of an integer field, if it says anything
+abbrev pub Quick : Plain → List ℕ → Type 0
+Quick P.Blank f = intField f ≡ F.Missing
+Quick (P.Number n) f = (intField f ≡ F.Value (pos n)) × (n < 10 ^ 18)
+Quick P.Other f = Unit {0}
+
+-- ---- the two forms of a number, as one
+
+abbrev pub formWidth : Form → ℕ
+formWidth (N.Integer w) = w
+formWidth (N.Decimal w d) = w
+
+-- iW of 1 to 18 columns; fW.D of at most 18, with places for a minus, a digit and the point
+abbrev pub goodForm : Form → Bool
+goodForm (N.Integer w) = leb 1 w && leb w 18
+goodForm (N.Decimal w d) = leb (d + 3) w && leb w 18
+
+unfoldable pub fieldOf : Form → List ℕ → Field
+fieldOf (N.Integer w) f = intField f
+fieldOf (N.Decimal w d) f = decField d f
+
+unfoldable pub holds : Form → ℤ → Bool
+holds (N.Integer w) v = holdsInt w v
+holds (N.Decimal w d) v = holdsDec w v
+
+unfoldable pub fieldBytes : Form → ℤ → List ℕ
+fieldBytes (N.Integer w) v = intBytes w v
+fieldBytes (N.Decimal w d) v = decBytes w d v
+
+-- a number with no sign, filled with zeros at the left
+unfoldable pub zeroFilled : Form → ℕ → List ℕ
+zeroFilled (N.Integer w) n = digitsOf w n
+zeroFilled (N.Decimal w d) n = digitsOf (w - (d + 1)) (n / 10 ^ d) ++ 46 ∷ digitsOf d n
 
 -- ---- a whole part, written from the right
 

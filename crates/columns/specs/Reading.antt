@@ -1,16 +1,16 @@
 -- What a line answers when it is read by a list of columns. Document 01, "Numbers answered": columns left to right,
--- each 4 (a separator), or 5, 6, 7, 8, at the field's first column.
-use Prim.Native.Nat.{ℕ, _+_}
+-- each 4 at the byte's own column, or 5, 6, 7, 8 at the field's first.
+use Prim.Native.Nat.{ℕ, _+_, _-_}
 use mathlib.Core.List.{List, [], _∷_, _++_}
-use mathlib.Core.Bool.{Bool, _&&_}
+use mathlib.Core.Bool.{Bool}
 use lib.IntN.{ℤ}
-use lib.ListN.{take, drop, getD}
+use lib.ListN.{length, take, drop, getD}
 use lib.Dec.{eqb}
 use Rattle.columns.specs.Answer.{pick, Answer, ok, refusal, chain, notBlank, requiredBlank, badForm, outOfRange, wrongLetter}
-use Rattle.columns.specs.Bytes.{allBlank, member}
-use Rattle.columns.specs.Number.{intField, decField}
-use Rattle.columns.specs.Column.{Slot, missing, given, Rec, joined, allowed, Col, integer, decimal, text, letter, clock, separator, width}
-use Rattle.columns.specs.Clock.{clockField, judgeClock}
+use Rattle.columns.specs.Bytes.{isNone, trim, member}
+use Rattle.columns.specs.Number.{fieldOf}
+use Rattle.columns.specs.Column.{Slot, missing, given, Rec, joined, allowed, Rule, anyText, noBrackets, notBlankFirst, Col, numeric, text, letter, group, blank, width}
+use Rattle.columns.specs.Group.{groupField, judgeGroup}
 use Rattle.columns.specs.declared.number.Field.{Field}
 use Rattle.columns.specs.declared.number.Field.the-variants as F
 
@@ -29,16 +29,29 @@ judge q fits at F.Missing = pick q (refusal requiredBlank (at + 1)) (ok (oneNumb
 judge q fits at F.Bad = refusal badForm (at + 1)
 judge q fits at (F.Value v) = pick (fits v) (ok (oneNumber (given v))) (refusal outOfRange (at + 1))
 
+-- text that its rule refuses; a bracket is found with the line's barred bytes
+abbrev pub judgeText : Rule → ℕ → List ℕ → Answer (List ℕ) → Answer (List ℕ)
+judgeText anyText at f o = o
+judgeText noBrackets at f o = o
+judgeText notBlankFirst at f o = pick (eqb (getD f 0 0) 32) (refusal requiredBlank (at + 1)) o
+
+abbrev pub asText : Answer (List ℕ) → Answer Rec
+asText (ok f) = ok (someText f)
+asText (refusal n k) = refusal n k
+
+-- the first byte that is not blank, 4 at its own column
+abbrev pub judgeBlanks : ℕ → List ℕ → Answer Rec
+judgeBlanks at f =
+    pick (isNone (trim f)) (ok nothing) (refusal notBlank (at + 1 + (length f - length (trim f))))
+
 -- the column in the bytes f, after the first `at` bytes of the line and the numbers `seen`
 unfoldable pub readCell : Col → List Slot → ℕ → List ℕ → Answer Rec
-readCell (integer w q g) seen at f = judge q (allowed g seen) at (intField f)
-readCell (decimal w d q g) seen at f = judge q (allowed g seen) at (decField d f)
-readCell (text w q x) seen at f =
-    pick (q && eqb (getD f 0 0) 32) (refusal requiredBlank (at + 1)) (ok (someText f))
+readCell (numeric m q g) seen at f = judge q (allowed g seen) at (fieldOf m f)
+readCell (text w r) seen at f = asText (judgeText r at f (ok f))
 readCell (letter s) seen at f =
     pick (member (getD f 0 0) s) (ok (someText f)) (refusal wrongLetter (at + 1))
-readCell clock seen at f = judgeClock at (clockField f)
-readCell separator seen at f = pick (allBlank f) (ok nothing) (refusal notBlank (at + 1))
+readCell (group g) seen at f = judgeGroup g seen at (groupField g f)
+readCell (blank w) seen at f = judgeBlanks at f
 
 -- the columns, one after the other; `line` is what comes after the first `at` bytes
 unfoldable pub readColumns : List Col → List Slot → ℕ → List ℕ → Answer Rec

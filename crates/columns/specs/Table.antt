@@ -1,55 +1,72 @@
 -- A list of columns as a table of flat numbers, a record as flat arrays, and what the table's reader and writers owe.
-use Prim.Native.Nat.{ℕ, zero, suc, _+_, _*_, _≤_}
+use Prim.Native.Nat.{ℕ, zero, suc, _+_, _/_, _%_, _≤_}
 use mathlib.Core.Path.{_≡_}
 use mathlib.Core.List.{List, [], _∷_, _++_}
 use lib.IntN.{ℤ, pos}
 use lib.ListN.{length, take, drop, getD}
 use lib.Seq.{slice}
-use lib.Dec.{T, eqb, ltb}
+use lib.Dec.{T, eqb, leb, ltb}
 use Rattle.columns.specs.Answer.{pick, Answer, ok, refusal}
-use Rattle.columns.specs.Column.{Slot, missing, given, Rec, Range, span, Col, integer, decimal, text, letter, clock, separator, width, slots, texts, goodCol, good, widths, allSlots, allTexts}
+use Rattle.columns.specs.Column.{Slot, missing, given, Rec, Range, asHeld, notNegative, span, Rule, anyText, noBrackets, notBlankFirst, clockTime, groupWidth, Col, numeric, text, letter, group, blank, width, slots, texts, goodCol, good, widths, allSlots, allTexts}
+use Rattle.columns.specs.declared.number.Form.{Form}
+use Rattle.columns.specs.declared.number.Form.the-variants as N
+use Rattle.columns.specs.declared.group.Group.{Group}
 use Rattle.columns.specs.declared.column.Column.{Column}
 use Rattle.columns.specs.declared.Outcome.{Outcome}
 use Rattle.columns.specs.declared.Outcome.the-variants as O
 
--- ---- the table: for each column four numbers (kind, width, a, b) and two ends of a range; one set of letters for all
+-- ---- the table: one number a column, its parts from the highest: kind, place, width, required, last
 
--- the range of an integer by its rule, the third number of its row: only spans as yet
-abbrev pub rangeOf : ℕ → ℤ → ℤ → Range
-rangeOf rule lo hi = span lo hi
-
--- kind 0 integer (a its range's rule, b 1 if required), 1 decimal (a its decimals, b 1 if required), 2 text (a 1 if it bars
--- brackets, b 1 if required), 3 a letter of the b letters from place a, 4 a clock time, else a separator
-abbrev pub colOf : Column → List ℕ → Col
-colOf c ls =
-    pick (eqb (c .kind) 0) (integer (c .width) (eqb (c .b) 1) (rangeOf (c .a) (c .low) (c .high)))
-    (pick (eqb (c .kind) 1) (decimal (c .width) (c .a) (eqb (c .b) 1) (span (c .low) (c .high)))
-    (pick (eqb (c .kind) 2) (text (c .width) (eqb (c .b) 1) (eqb (c .a) 1))
-    (pick (eqb (c .kind) 3) (letter (slice (c .a) (c .a + c .b) ls)) (pick (eqb (c .kind) 4) clock separator))))
-
--- the column at a place of the table; letters and separators are 1 wide, clock times 12
-abbrev pub columnAt : List ℕ → List ℤ → ℕ → Column
-columnAt s r i =
+abbrev pub columnIn : ℕ → Column
+columnIn row =
     record {
-      kind = getD s (i * 4) 0;
-      width = pick (ltb (getD s (i * 4) 0) 3) (getD s (i * 4 + 1) 0) (pick (eqb (getD s (i * 4) 0) 4) 12 1);
-      a = getD s (i * 4 + 2) 0;
-      b = getD s (i * 4 + 3) 0;
-      low = getD r (i * 2) (pos 0);
-      high = getD r (i * 2 + 1) (pos 0);
+      kind = row / 16777216;
+      place = row / 32768 % 512;
+      width = row / 256 % 128;
+      required = leb 128 (row % 256);
+      last = row % 128;
     }
+
+-- a range by its number: 0 as held, 1 not negative, else the span whose ends stand at that place of the ranges
+abbrev pub rangeAt : List ℤ → ℕ → Range
+rangeAt rs k =
+    pick (eqb k 0) asHeld (pick (eqb k 1) notNegative (span (getD rs k (pos 0)) (getD rs (k + 1) (pos 0))))
+
+-- a text's rule by its number
+abbrev pub ruleAt : ℕ → Rule
+ruleAt k = pick (eqb k 0) anyText (pick (eqb k 1) noBrackets notBlankFirst)
+
+-- a group by its number: only the clock time as yet
+abbrev pub groupAt : ℕ → Group
+groupAt k = clockTime
+
+-- a number's form: kind 0 is iW, its width W; kind 1 is fW.D, its place D
+abbrev pub formIn : Column → Form
+formIn c = pick (eqb (c .kind) 0) (N.Integer (c .width)) (N.Decimal (c .width) (c .place))
+
+-- kinds 0 and 1 are numbers (the last part is the range), 2 text (its rule), 3 a letter of a set (as many letters from its place), 4
+-- a group (which), any other a stretch of blanks
+abbrev pub colOf : Column → List ℤ → List ℕ → Col
+colOf c rs ls =
+    pick (ltb (c .kind) 2) (numeric (formIn c) (c .required) (rangeAt rs (c .last)))
+    (pick (eqb (c .kind) 2) (text (c .width) (ruleAt (c .last)))
+    (pick (eqb (c .kind) 3) (letter (slice (c .place) (c .place + c .last) ls))
+    (pick (eqb (c .kind) 4) (group (groupAt (c .last))) (blank (c .width)))))
 
 -- n columns from place i on
 unfoldable pub columnsOf : List ℕ → List ℤ → List ℕ → ℕ → ℕ → List Col
-columnsOf s r ls i zero = []
-columnsOf s r ls i (suc n) = colOf (columnAt s r i) ls ∷ columnsOf s r ls (i + 1) n
+columnsOf s rs ls i zero = []
+columnsOf s rs ls i (suc n) = colOf (columnIn (getD s i 0)) rs ls ∷ columnsOf s rs ls (i + 1) n
 
--- numbers and text bytes that a column takes, by its kind
-abbrev pub slotsBy : ℕ → ℕ
-slotsBy k = pick (ltb k 2) 1 (pick (eqb k 4) 3 0)
+-- bytes of the line, numbers and text bytes that a row's column takes: a letter has 1 byte, a group those of its parts
+abbrev pub widthBy : Column → ℕ
+widthBy c = pick (eqb (c .kind) 3) 1 (pick (eqb (c .kind) 4) (groupWidth (groupAt (c .last))) (c .width))
 
-abbrev pub textsBy : ℕ → ℕ → ℕ
-textsBy k w = pick (ltb k 2) 0 (pick (ltb k 4) w 0)
+abbrev pub slotsBy : Column → ℕ
+slotsBy c = pick (ltb (c .kind) 2) 1 (pick (eqb (c .kind) 4) 3 0)
+
+abbrev pub textsBy : Column → ℕ
+textsBy c = pick (ltb (c .kind) 2) 0 (pick (ltb (c .kind) 4) (widthBy c) 0)
 
 -- ---- the record: a flag that is 0 says that the number is missing, and then the number is 0
 

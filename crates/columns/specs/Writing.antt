@@ -2,22 +2,24 @@
 -- each 5, 2, 10, 7, 8; 2 at the byte's own column, the others at the field's first.
 use Prim.Native.Nat.{ℕ, _+_}
 use mathlib.Core.List.{List, [], _∷_, _++_}
-use mathlib.Core.Bool.{Bool, false, _&&_}
+use mathlib.Core.Bool.{Bool, false}
 use lib.IntN.{ℤ}
 use lib.ListN.{length, take, drop, getD, replicate}
 use lib.Dec.{eqb, ltb}
 use Rattle.columns.specs.Answer.{pick, Answer, ok, refusal, both, barredByte, requiredBlank, outOfRange, wrongLetter, tooWide, tooShort}
 use Rattle.columns.specs.Bytes.{barred, member}
-use Rattle.columns.specs.Number.{holdsInt, intBytes, holdsDec, decBytes}
-use Rattle.columns.specs.Column.{Slot, missing, given, allowed, Col, integer, decimal, text, letter, clock, separator, width, slots, texts, widths}
-use Rattle.columns.specs.Clock.{putClock}
+use Rattle.columns.specs.Number.{formWidth, holds, fieldBytes}
+use Rattle.columns.specs.Column.{Slot, missing, given, allowed, ruleBars, Col, numeric, text, letter, group, blank, width, slots, texts, widths}
+use Rattle.columns.specs.Group.{putGroup}
+use Rattle.columns.specs.Reading.{judgeText}
+use Rattle.columns.specs.declared.number.Form.{Form}
 
 -- required and missing 5, too wide 10, range 7; a missing number is written as blanks
-abbrev pub putNumber : ℕ → Bool → (ℤ → Bool) → ℕ → (ℤ → Bool) → (ℤ → List ℕ) → Slot → Answer (List ℕ)
-putNumber w q fits at holds bytes missing =
-    pick q (refusal requiredBlank (at + 1)) (ok (replicate w 32))
-putNumber w q fits at holds bytes (given v) =
-    pick (holds v) (pick (fits v) (ok (bytes v)) (refusal outOfRange (at + 1))) (refusal tooWide (at + 1))
+abbrev pub putNumber : Form → Bool → (ℤ → Bool) → ℕ → Slot → Answer (List ℕ)
+putNumber m q fits at missing =
+    pick q (refusal requiredBlank (at + 1)) (ok (replicate (formWidth m) 32))
+putNumber m q fits at (given v) =
+    pick (holds m v) (pick (fits v) (ok (fieldBytes m v)) (refusal outOfRange (at + 1))) (refusal tooWide (at + 1))
 
 -- the lowest barred byte of a column that starts after the first `at` bytes, with brackets among them or not
 abbrev pub barredIn : Bool → ℕ → List ℕ → ℕ
@@ -29,16 +31,13 @@ putText bars at t o = pick (eqb (barredIn bars at t) 0) o (refusal barredByte (b
 
 -- the bytes of a column, from its numbers and its text
 unfoldable pub writeCell : Col → List Slot → ℕ → List Slot → List ℕ → Answer (List ℕ)
-writeCell (integer w q g) seen at ns t =
-    putNumber w q (allowed g seen) at (holdsInt w) (intBytes w) (getD ns 0 missing)
-writeCell (decimal w d q g) seen at ns t =
-    putNumber w q (allowed g seen) at (holdsDec w) (decBytes w d) (getD ns 0 missing)
-writeCell (text w q x) seen at ns t =
-    pick (q && eqb (getD t 0 0) 32) (refusal requiredBlank (at + 1)) (putText x at t (ok t))
+writeCell (numeric m q g) seen at ns t = putNumber m q (allowed g seen) at (getD ns 0 missing)
+writeCell (text w r) seen at ns t = judgeText r at t (putText (ruleBars r) at t (ok t))
 writeCell (letter s) seen at ns t =
     putText false at t (pick (member (getD t 0 0) s) (ok t) (refusal wrongLetter (at + 1)))
-writeCell clock seen at ns t = putClock at (getD ns 0 missing) (getD ns 1 missing) (getD ns 2 missing)
-writeCell separator seen at ns t = ok (32 ∷ [])
+writeCell (group g) seen at ns t =
+    putGroup g seen at (getD ns 0 missing) (getD ns 1 missing) (getD ns 2 missing)
+writeCell (blank w) seen at ns t = ok (replicate w 32)
 
 -- the columns, one after the other; `ns` and `t` are what is left of the record
 unfoldable pub writeColumns : List Col → List Slot → ℕ → List Slot → List ℕ → Answer (List ℕ)
@@ -47,10 +46,13 @@ writeColumns (c ∷ cs) seen at ns t =
     both _++_ (writeCell c seen at (take (slots c) ns) (take (texts c) t))
     (writeColumns cs (seen ++ take (slots c) ns) (at + width c) (drop (slots c) ns) (drop (texts c) t))
 
--- a line of its own: 11 where the lent place is too short for it
+-- what is answered where the lent place of some bytes has room for w of them: else 11
+abbrev pub inPlace : {A : Type 0} → ℕ → ℕ → Answer A → Answer A
+inPlace room w o = pick (ltb room w) (refusal tooShort 0) o
+
+-- a line of its own: 11 comes before the columns
 unfoldable pub writeLine : List Col → List Slot → List ℕ → ℕ → Answer (List ℕ)
-writeLine cs ns t room =
-    pick (ltb room (widths cs)) (refusal tooShort 0) (writeColumns cs [] 0 ns t)
+writeLine cs ns t room = inPlace room (widths cs) (writeColumns cs [] 0 ns t)
 
 -- what was written before the first refusal: the whole line where there is none
 abbrev pub wroteBefore : Answer (List ℕ) → List ℕ → List ℕ

@@ -1,12 +1,13 @@
-// Byte classes, and stretches of bytes: all blank, copied, the lowest barred byte, a letter of a set.
+// Byte classes, and stretches of bytes: all blank, copied, the lowest barred byte, a letter of a set, equal.
 ghost use mathlib.Core.Path.{_≡_};
 ghost use mathlib.Core.Bool.{true, false};
 ghost use mathlib.Core.List.{_++_};
-ghost use Prim.Native.Nat.{_+_, _≤_};
-ghost use lib.ListN.{length, drop, replicate};
+ghost use Prim.Native.Nat.{_+_, _-_, _≤_};
+ghost use lib.ListN.{length, take, drop, replicate};
 ghost use lib.Seq.{slice};
 ghost use Rattle.columns.specs.Answer.{pick};
-ghost use Rattle.columns.specs.Bytes.{trim, isDigit, isBracket, isAllowed, inside, barred, member};
+ghost use Rattle.columns.specs.Bytes.{trim, isDigit, isBracket, isAllowed, inside, Plain, barred, member, sameBytes};
+ghost use Rattle.columns.specs.Table.{placed};
 
 // All blank.
 pub fn blanks(out: &mut [u8])
@@ -29,6 +30,15 @@ pub fn copy(out: &mut [u8], from: &[u8])
         out[i] = from[i];
         i += 1;
     }
+}
+
+// The bytes of `from`, from place `at` on.
+pub fn copy_at(out: &mut [u8], at: usize, from: &[u8])
+    requires { ⌜ at + length (now from) ≤ length (now out) ⌝ }
+    ensures { λ _. ⌜ now (out .exit) ≡ placed at (now (from .entry)) (now (out .entry)) ⌝ }
+{
+    let end = at + from.len();
+    copy(&mut out[at..end], from);
 }
 
 // The first place from `from` to `to` that is no blank, or `to`.
@@ -89,9 +99,8 @@ fn is_barred(b: u8, column: usize, from: usize, to: usize) -> bool
     is_inside(from, to, column)
 }
 
-// The lowest column with a barred byte, brackets barred in the columns `from` to `to`, or 0. The bytes of `s` stand from
-// `column` on.
-pub fn first_barred(s: &[u8], column: usize, from: usize, to: usize) -> usize
+// The same as first_barred, a byte at a time.
+fn scan_barred(s: &[u8], column: usize, from: usize, to: usize) -> usize
     requires { ⌜ column + length (now s) ≤ 70000 ⌝ }
     ensures { λ r. ⌜ r ≡ barred from to column (now (s .entry)) ⌝ }
 {
@@ -103,6 +112,59 @@ pub fn first_barred(s: &[u8], column: usize, from: usize, to: usize) -> usize
         i += 1;
     }
     0
+}
+
+// Whether each byte may stand in any column. The loop has no way out but its end, so that the compiler makes it compare sixteen
+// bytes at once; a part of sixteen bytes becomes one comparison.
+fn plain_part(s: &[u8]) -> bool
+    ensures { λ r. ⌜ (r ≡ true → Plain (length (now (s .entry))) (now (s .entry))) ⌝ }
+{
+    let mut ok = true;
+    let mut i = 0;
+    while i < s.len() {
+        ok = ok & !is_barred(s[i], 0, 0, 0);
+        i += 1;
+    }
+    ok
+}
+
+// The same for the bytes from place `from` up to place `to`.
+fn plain_between(s: &[u8], from: usize, to: usize) -> bool
+    requires { ⌜ (from ≤ to) × (to ≤ length (now s)) ⌝ }
+    ensures { λ r. ⌜ (r ≡ true → Plain (length (take (to - from) (drop from (now (s .entry))))) (take (to - from) (drop from (now (s .entry))))) ⌝ }
+{
+    plain_part(&s[from..to])
+}
+
+// The same, in parts of sixteen bytes: the last part ends where `s` ends, and may hold bytes of the part before it.
+fn all_plain(s: &[u8]) -> bool
+    ensures { λ r. ⌜ (r ≡ true → Plain (length (now (s .entry))) (now (s .entry))) ⌝ }
+{
+    let n = s.len();
+    if n < 16 {
+        return plain_part(s);
+    }
+    let mut i = 0;
+    while 16 < n - i {
+        let e = i + 16;
+        if !plain_between(s, i, e) {
+            return false;
+        }
+        i = e;
+    }
+    plain_between(s, n - 16, n)
+}
+
+// The lowest column with a barred byte, brackets barred in the columns `from` to `to`, or 0. The bytes of `s` stand from
+// `column` on.
+pub fn first_barred(s: &[u8], column: usize, from: usize, to: usize) -> usize
+    requires { ⌜ column + length (now s) ≤ 70000 ⌝ }
+    ensures { λ r. ⌜ r ≡ barred from to column (now (s .entry)) ⌝ }
+{
+    if all_plain(s) {
+        return 0;
+    }
+    scan_barred(s, column, from, to)
 }
 
 // Whether the letters from place `from` to place `to` have b.
@@ -121,4 +183,49 @@ pub fn has(letters: &[u8], from: usize, to: usize, b: u8) -> bool
         i += 1;
     }
     false
+}
+
+// Whether two stretches of one length are equal. The loop has no way out but its end, so that the compiler makes it compare
+// sixteen bytes at once; a part of sixteen bytes becomes one comparison.
+fn same_part(a: &[u8], b: &[u8]) -> bool
+    requires { ⌜ length (now a) ≡ length (now b) ⌝ }
+    ensures { λ r. ⌜ r ≡ sameBytes (now (a .entry)) (now (b .entry)) ⌝ }
+{
+    let mut ok = true;
+    let mut i = 0;
+    while i < a.len() {
+        ok = ok & (a[i] == b[i]);
+        i += 1;
+    }
+    ok
+}
+
+// The same for the bytes from place `from` up to place `to`.
+fn same_between(a: &[u8], b: &[u8], from: usize, to: usize) -> bool
+    requires { ⌜ (from ≤ to) × ((to ≤ length (now a)) × (to ≤ length (now b))) ⌝ }
+    ensures { λ r. ⌜ r ≡ sameBytes (take (to - from) (drop from (now (a .entry)))) (take (to - from) (drop from (now (b .entry)))) ⌝ }
+{
+    same_part(&a[from..to], &b[from..to])
+}
+
+// Whether two stretches of bytes are equal. The last part ends where they end, and may hold bytes of the part before it.
+pub fn same(a: &[u8], b: &[u8]) -> bool
+    ensures { λ r. ⌜ r ≡ sameBytes (now (a .entry)) (now (b .entry)) ⌝ }
+{
+    let n = a.len();
+    if n != b.len() {
+        return false;
+    }
+    if n < 16 {
+        return same_part(a, b);
+    }
+    let mut i = 0;
+    while 16 < n - i {
+        let e = i + 16;
+        if !same_between(a, b, i, e) {
+            return false;
+        }
+        i = e;
+    }
+    same_between(a, b, n - 16, n)
 }

@@ -1,33 +1,124 @@
-// A column of a table of flat numbers, and the range step.
+// A column of a table, one number a column, and the range step.
+use super::group::group_at;
+use super::group::group_width;
+use super::number::Form;
 ghost use mathlib.Core.Path.{_≡_};
-ghost use Prim.Native.Nat.{_+_, _*_, _≤_};
-ghost use lib.ListN.{length, take};
-ghost use lib.Dec.{ltb, eqb};
-ghost use Rattle.columns.specs.Answer.{pick};
-ghost use Rattle.columns.specs.Column.{within, allowed};
-ghost use Rattle.columns.specs.Table.{rangeOf, columnAt, slotsOf, slotsBy, textsBy};
+ghost use mathlib.Core.List.{List};
+ghost use Prim.Native.Nat.{_+_, _≤_, _<_};
+ghost use lib.ListN.{length, take, getD};
+ghost use lib.IntN.{pos};
+ghost use Rattle.columns.specs.Column.{Slot, within, allowed};
+ghost use Rattle.columns.specs.Table.{columnIn, rangeAt, formIn, widthBy, slotsBy, textsBy, slotsOf};
 
-// The kinds of columns, the first number of a table's row; any other number is a separator.
-pub const INTEGER: u16 = 0;
+// A row of a table is a sum: a kind; places, the decimals of a number or the place of a set's first letter; widths, the columns;
+// REQUIRED for a number that must be there; and last the range of a number, the rule of a text, the count of a set's letters
+// or the number of a group.
+pub const INTEGER: u32 = 0;
 
-pub const DECIMAL: u16 = 1;
+pub const DECIMAL: u32 = 16777216;
 
-pub const TEXT: u16 = 2;
+pub const TEXT: u32 = 33554432;
 
-pub const LETTER: u16 = 3;
+pub const LETTER: u32 = 50331648;
 
-pub const CLOCK: u16 = 4;
+pub const GROUP: u32 = 67108864;
 
-pub const SEPARATOR: u16 = 5;
+pub const BLANK: u32 = 83886080;
 
-// A row of a table: what a and b are goes by the kind (specs/Table.antt).
+pub const PLACES: u32 = 32768;
+
+pub const WIDTH: u32 = 256;
+
+pub const REQUIRED: u32 = 128;
+
+// The ranges that every table has; a span is named by the place of its first end among the table's ranges, from 2 on.
+pub const AS_HELD: u32 = 0;
+
+pub const NOT_NEGATIVE: u32 = 1;
+
+// The rules of text.
+pub const ANY_TEXT: u32 = 0;
+
+pub const NO_BRACKETS: u32 = 1;
+
+pub const NOT_BLANK_FIRST: u32 = 2;
+
+// The groups.
+pub const CLOCK: u32 = 0;
+
+// The parts of a row.
 pub struct Column {
-    pub kind: u16,
+    pub kind: u32,
+    pub place: usize,
     pub width: usize,
-    pub a: usize,
-    pub b: usize,
-    pub low: i64,
-    pub high: i64,
+    pub required: bool,
+    pub last: usize,
+}
+
+// The parts of a row (specs/Table.antt).
+pub fn column_in(row: u32) -> Column
+    ensures { λ r. ⌜ (r ≡ columnIn row) × ((r .place < 512) × (r .last < 128)) ⌝ }
+{
+    Column {
+        kind: row / 16777216,
+        place: (row / 32768 % 512) as usize,
+        width: (row / 256 % 128) as usize,
+        required: 128 <= row % 256,
+        last: (row % 128) as usize,
+    }
+}
+
+// The columns that a row's column takes.
+pub fn width_in(c: Column) -> usize
+    ensures { λ r. ⌜ r ≡ widthBy c ⌝ }
+{
+    let kind = c.kind;
+    if kind == 3 {
+        return 1;
+    }
+    if kind == 4 {
+        return group_width(group_at(c.last));
+    }
+    c.width
+}
+
+// Numbers of the record that it takes.
+pub fn slots_in(c: Column) -> usize
+    ensures { λ r. ⌜ r ≡ slotsBy c ⌝ }
+{
+    let kind = c.kind;
+    if kind < 2 {
+        return 1;
+    }
+    if kind == 4 {
+        return 3;
+    }
+    0
+}
+
+// Text bytes of the record that it takes.
+pub fn texts_in(c: Column) -> usize
+    ensures { λ r. ⌜ r ≡ textsBy c ⌝ }
+{
+    let kind = c.kind;
+    if kind < 2 {
+        return 0;
+    }
+    if kind < 4 {
+        return width_in(c);
+    }
+    0
+}
+
+// The form of a number's column.
+pub fn form_in(c: Column) -> Form
+    ensures { λ r. ⌜ r ≡ formIn c ⌝ }
+{
+    let kind = c.kind;
+    if kind == 0 {
+        return Form::Integer(c.width);
+    }
+    Form::Decimal(c.width, c.place)
 }
 
 pub fn in_range(low: i64, high: i64, v: i64) -> bool
@@ -42,81 +133,34 @@ pub fn in_range(low: i64, high: i64, v: i64) -> bool
     true
 }
 
-// The range step: whether a column may hold v, after the first k numbers of the record.
-pub fn allows(
-    rule: usize,
-    low: i64,
-    high: i64,
-    flags: &[u8],
-    values: &[i64],
-    k: usize,
-    v: i64,
-) -> bool
-    requires { ⌜ (length (now flags) ≡ length (now values)) × (k ≤ length (now flags)) ⌝ }
-    ensures { λ r. ⌜ r ≡ allowed (rangeOf rule low high) (take k (slotsOf (now (flags .entry)) (now (values .entry)))) v ⌝ }
+// An end of a range: 0 where the table has none there.
+fn end_at(ranges: &[i64], i: usize) -> i64
+    ensures { λ r. ⌜ r ≡ getD (now (ranges .entry)) i (pos 0) ⌝ }
 {
-    in_range(low, high, v)
-}
-
-fn wide(x: u16) -> usize
-    ensures { λ r. ⌜ (r ≡ x) × (r ≤ 65535) ⌝ }
-{
-    x as usize
-}
-
-// Letters and separators are one column wide, clock times 12.
-fn width_of(kind: u16, width: u16) -> usize
-    ensures { λ r. ⌜ r ≡ pick (ltb kind 3) width (pick (eqb kind 4) 12 1) ⌝ }
-{
-    if kind < LETTER {
-        return width as usize;
-    }
-    if kind == CLOCK {
-        return 12;
-    }
-    1
-}
-
-// Numbers of the record that a column takes.
-pub fn slots_of(kind: u16) -> usize
-    ensures { λ r. ⌜ r ≡ slotsBy kind ⌝ }
-{
-    if kind < TEXT {
-        return 1;
-    }
-    if kind == CLOCK {
-        return 3;
+    if i < ranges.len() {
+        return ranges[i];
     }
     0
 }
 
-// Text bytes of the record that a column takes.
-pub fn texts_of(kind: u16, width: usize) -> usize
-    ensures { λ r. ⌜ r ≡ textsBy kind width ⌝ }
+// Whether a range may hold v, whatever numbers came before it.
+pub fn in_range_at(ranges: &[i64], k: usize, v: i64) -> bool
+    requires { ⌜ k < 128 ⌝ }
+    ensures { λ r. ⌜ ((seen : List Slot) → r ≡ allowed (rangeAt (now (ranges .entry)) k) seen v) ⌝ }
 {
-    if kind < TEXT {
-        return 0;
+    if k == 0 {
+        return true;
     }
-    if kind < CLOCK {
-        return width;
+    if k == 1 {
+        return 0 <= v;
     }
-    0
+    in_range(end_at(ranges, k), end_at(ranges, k + 1), v)
 }
 
-// The column at place i of a table.
-pub fn column_at(shape: &[u16], ranges: &[i64], i: usize) -> Column
-    requires { ⌜ (i * 4 + 4 ≤ length (now shape)) × (i * 2 + 2 ≤ length (now ranges)) ⌝ }
-    ensures { λ r. ⌜ (r ≡ columnAt (now (shape .entry)) (now (ranges .entry)) i) × (r .a + r .b ≤ 131072) ⌝ }
+// The range step: whether a column may hold v, after the first n numbers of the record.
+pub fn allows(ranges: &[i64], k: usize, flags: &[u8], values: &[i64], n: usize, v: i64) -> bool
+    requires { ⌜ (k < 128) × ((length (now flags) ≡ length (now values)) × (n ≤ length (now flags))) ⌝ }
+    ensures { λ r. ⌜ r ≡ allowed (rangeAt (now (ranges .entry)) k) (take n (slotsOf (now (flags .entry)) (now (values .entry)))) v ⌝ }
 {
-    let low = ranges[i * 2];
-    let high = ranges[i * 2 + 1];
-    let kind = shape[i * 4];
-    Column {
-        kind,
-        width: width_of(kind, shape[i * 4 + 1]),
-        a: wide(shape[i * 4 + 2]),
-        b: wide(shape[i * 4 + 3]),
-        low,
-        high,
-    }
+    in_range_at(ranges, k, v)
 }

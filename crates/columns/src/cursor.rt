@@ -1,30 +1,29 @@
 // The cursor: it reads one column field and is handed back with the value.
+use super::bytes::copy_at;
 use super::bytes::has;
 use super::bytes::skip_blanks;
-use super::clock::Time;
-use super::clock::in_day;
-use super::clock::read_clock;
-use super::column::CLOCK;
 use super::column::Column;
-use super::column::INTEGER;
-use super::column::LETTER;
-use super::column::TEXT;
 use super::column::allows;
+use super::group::Group;
+use super::group::Three;
+use super::group::group_at;
+use super::group::group_width;
+use super::group::in_group;
+use super::group::read_group;
 use super::number::Field;
 use super::number::read_dec;
 use super::number::read_int;
 ghost use mathlib.Core.Path.{_≡_};
-ghost use mathlib.Core.Bool.{false};
 ghost use mathlib.Core.List.{List, []};
 ghost use Prim.Native.Nat.{ℕ, _+_, _≤_, _<_};
 ghost use lib.ListN.{length, take};
 ghost use lib.Seq.{slice};
 ghost use lib.Dec.{T};
 ghost use Rattle.columns.specs.Number.{intField, decField};
-ghost use Rattle.columns.specs.Column.{allowed, text, letter, clock, separator, width, goodCol};
-ghost use Rattle.columns.specs.Clock.{clockField, judgeClock};
+ghost use Rattle.columns.specs.Column.{Slot, allowed, text, letter, blank, width, groupWidth, goodGroup};
+ghost use Rattle.columns.specs.Group.{groupField, judgeGroup};
 ghost use Rattle.columns.specs.Reading.{judge, readCell};
-ghost use Rattle.columns.specs.Table.{rangeOf, colOf, slotsOf};
+ghost use Rattle.columns.specs.Table.{rangeAt, ruleAt, colOf, slotsOf, placed};
 ghost use Rattle.columns.specs.Cell.{cellAnswer, Found, Readable};
 
 // How many columns of the line are done.
@@ -32,16 +31,16 @@ pub struct Cursor {
     pub at: usize,
 }
 
-// What a column holds: a number that is missing or given, a time that is missing or given, its own bytes (text or a
-// letter), nothing (a separator); or the number of its refusal.
+// What a column holds: a number that is missing or given, a group that is missing or given, its own bytes (text or a
+// letter), nothing (blanks); or the number and column of its refusal.
 pub enum Cell {
     Absent,
     Number(i64),
-    NoTime,
-    Clock(i64, i64, i64),
+    NoThree,
+    Three(i64, i64, i64),
     Chars,
     Gap,
-    Refused(u8),
+    Refused(u8, usize),
 }
 
 pub struct NumberRead {
@@ -49,8 +48,8 @@ pub struct NumberRead {
     pub next: Cursor,
 }
 
-pub struct TimeRead {
-    pub time: Time,
+pub struct GroupRead {
+    pub three: Three,
     pub next: Cursor,
 }
 
@@ -62,48 +61,48 @@ pub struct CellRead {
 // A number's column: required and blank 5, form 6, range 7.
 fn judged(
     field: Field,
-    required: bool,
-    rule: usize,
-    low: i64,
-    high: i64,
+    at: usize,
+    c: Column,
+    ranges: &[i64],
     flags: &[u8],
     values: &[i64],
     k: usize,
 ) -> Cell
-    requires { ⌜ (length (now flags) ≡ length (now values)) × (k ≤ length (now flags)) ⌝ }
-    ensures { λ r. ⌜ ((at : ℕ) (f : List ℕ) → cellAnswer r at f ≡ judge required (allowed (rangeOf rule low high) (take k (slotsOf (now (flags .entry)) (now (values .entry))))) at field) ⌝ }
+    requires { ⌜ (at ≤ 4096) × ((c .last < 128) × ((length (now flags) ≡ length (now values)) × (k ≤ length (now flags)))) ⌝ }
+    ensures { λ r. ⌜ ((f : List ℕ) → cellAnswer r f ≡ judge (c .required) (allowed (rangeAt (now (ranges .entry)) (c .last)) (take k (slotsOf (now (flags .entry)) (now (values .entry))))) at field) ⌝ }
 {
     match field {
         Field::Missing => {
-            if required {
-                Cell::Refused(super::REQUIRED)
+            if c.required {
+                Cell::Refused(super::REQUIRED, at + 1)
             } else {
                 Cell::Absent
             }
         }
-        Field::Bad => Cell::Refused(super::FORM),
+        Field::Bad => Cell::Refused(super::FORM, at + 1),
         Field::Value(v) => {
-            if allows(rule, low, high, flags, values, k, v) {
+            if allows(ranges, c.last, flags, values, k, v) {
                 Cell::Number(v)
             } else {
-                Cell::Refused(super::RANGE)
+                Cell::Refused(super::RANGE, at + 1)
             }
         }
     }
 }
 
-// A clock time's column: form 6, ranges 7.
-fn timed(time: Time) -> Cell
-    ensures { λ r. ⌜ ((at : ℕ) (f : List ℕ) → cellAnswer r at f ≡ judgeClock at time) ⌝ }
+// A group's column: form 6, ranges 7.
+fn grouped(three: Three, at: usize, g: Group) -> Cell
+    requires { ⌜ at ≤ 4096 ⌝ }
+    ensures { λ r. ⌜ ((seen : List Slot) (f : List ℕ) → cellAnswer r f ≡ judgeGroup g seen at three) ⌝ }
 {
-    match time {
-        Time::Missing => Cell::NoTime,
-        Time::Bad => Cell::Refused(super::FORM),
-        Time::Given(h, m, s) => {
-            if in_day(h, m, s) {
-                Cell::Clock(h, m, s)
+    match three {
+        Three::Missing => Cell::NoThree,
+        Three::Bad => Cell::Refused(super::FORM, at + 1),
+        Three::Given(x, y, z) => {
+            if in_group(g, x, y, z) {
+                Cell::Three(x, y, z)
             } else {
-                Cell::Refused(super::RANGE)
+                Cell::Refused(super::RANGE, at + 1)
             }
         }
     }
@@ -136,27 +135,28 @@ impl Cursor {
         }
     }
 
-    // A clock time.
-    pub fn time(self, line: &[u8]) -> TimeRead
-        requires { ⌜ self .at + 12 ≤ length (now line) ⌝ }
-        ensures { λ r. ⌜ (r .time ≡ clockField (slice (self .at) (self .at + 12) (now (line .entry)))) × (r .next .at ≡ self .at + 12) ⌝ }
+    // A group.
+    pub fn group(self, line: &[u8], g: Group) -> GroupRead
+        requires { ⌜ (self .at + groupWidth g ≤ length (now line)) × T (goodGroup g) ⌝ }
+        ensures { λ r. ⌜ (r .three ≡ groupField g (slice (self .at) (self .at + groupWidth g) (now (line .entry)))) × (r .next .at ≡ self .at + groupWidth g) ⌝ }
     {
         let at = self.at;
-        let time = read_clock(line, at);
-        TimeRead {
-            time,
-            next: Cursor { at: at + 12 },
+        let end = at + group_width(g);
+        let three = read_group(line, at, g);
+        GroupRead {
+            three,
+            next: Cursor { at: end },
         }
     }
 
-    // Text, which may have to begin with no blank.
-    pub fn text(self, line: &[u8], width: usize, required: bool) -> CellRead
-        requires { ⌜ (self .at + width ≤ length (now line)) × (1 ≤ width) ⌝ }
-        ensures { λ r. ⌜ Found (readCell (text width required false) [] (self .at) (slice (self .at) (self .at + width) (now (line .entry)))) r (self .at) width (slice (self .at) (self .at + width) (now (line .entry))) ⌝ }
+    // Text with its rule: one that must not begin with a blank, 5.
+    pub fn text(self, line: &[u8], width: usize, rule: usize) -> CellRead
+        requires { ⌜ (self .at + width ≤ length (now line)) × ((1 ≤ width) × (self .at ≤ 4096)) ⌝ }
+        ensures { λ r. ⌜ Found (readCell (text width (ruleAt rule)) [] (self .at) (slice (self .at) (self .at + width) (now (line .entry)))) r (self .at) width (slice (self .at) (self .at + width) (now (line .entry))) ⌝ }
     {
         let at = self.at;
         let next = Cursor { at: at + width };
-        if !required {
+        if rule < 2 {
             return CellRead {
                 cell: Cell::Chars,
                 next,
@@ -164,7 +164,7 @@ impl Cursor {
         }
         if line[at] == 32 {
             return CellRead {
-                cell: Cell::Refused(super::REQUIRED),
+                cell: Cell::Refused(super::REQUIRED, at + 1),
                 next,
             };
         }
@@ -174,9 +174,20 @@ impl Cursor {
         }
     }
 
+    // Text of any length, as it stands, into `out` from place `to` on.
+    pub fn stretch(self, line: &[u8], width: usize, out: &mut [u8], to: usize) -> Cursor
+        requires { ⌜ (self .at + width ≤ length (now line)) × (to + width ≤ length (now out)) ⌝ }
+        ensures { λ r. ⌜ (r .at ≡ self .at + width) × (now (out .exit) ≡ placed to (slice (self .at) (self .at + width) (now (line .entry))) (now (out .entry))) ⌝ }
+    {
+        let at = self.at;
+        let end = at + width;
+        copy_at(out, to, &line[at..end]);
+        Cursor { at: end }
+    }
+
     // A letter of those from place `from` to place `to`.
     pub fn letter(self, line: &[u8], letters: &[u8], from: usize, to: usize) -> CellRead
-        requires { ⌜ (self .at + 1 ≤ length (now line)) × (from ≤ to) ⌝ }
+        requires { ⌜ (self .at + 1 ≤ length (now line)) × ((from ≤ to) × (self .at ≤ 4096)) ⌝ }
         ensures { λ r. ⌜ Found (readCell (letter (slice from to (now (letters .entry)))) [] (self .at) (slice (self .at) (self .at + 1) (now (line .entry)))) r (self .at) 1 (slice (self .at) (self .at + 1) (now (line .entry))) ⌝ }
     {
         let at = self.at;
@@ -188,54 +199,28 @@ impl Cursor {
             };
         }
         CellRead {
-            cell: Cell::Refused(super::LETTER),
+            cell: Cell::Refused(super::LETTER, at + 1),
             next,
         }
     }
 
-    // A separator, which is blank.
-    pub fn separator(self, line: &[u8]) -> CellRead
-        requires { ⌜ self .at + 1 ≤ length (now line) ⌝ }
-        ensures { λ r. ⌜ Found (readCell separator [] (self .at) (slice (self .at) (self .at + 1) (now (line .entry)))) r (self .at) 1 (slice (self .at) (self .at + 1) (now (line .entry))) ⌝ }
+    // A stretch of blanks: any other byte is 4 at its own column.
+    pub fn blanks(self, line: &[u8], width: usize) -> CellRead
+        requires { ⌜ (self .at + width ≤ length (now line)) × (length (now line) ≤ 4096) ⌝ }
+        ensures { λ r. ⌜ Found (readCell (blank width) [] (self .at) (slice (self .at) (self .at + width) (now (line .entry)))) r (self .at) width (slice (self .at) (self .at + width) (now (line .entry))) ⌝ }
     {
         let at = self.at;
-        let next = Cursor { at: at + 1 };
-        if line[at] == 32 {
+        let end = at + width;
+        let next = Cursor { at: end };
+        let start = skip_blanks(line, at, end);
+        if start == end {
             return CellRead {
                 cell: Cell::Gap,
                 next,
             };
         }
         CellRead {
-            cell: Cell::Refused(super::SEPARATOR),
-            next,
-        }
-    }
-
-    // A column that holds a number, after the first k numbers of the record.
-    fn number(self, line: &[u8], c: Column, flags: &[u8], values: &[i64], k: usize) -> CellRead
-        requires { ⌜ (c .kind < 2) × Readable (colOf c []) (c .width) (self .at) (length (now line)) k (length (now flags)) (length (now values)) ⌝ }
-        ensures { λ r. ⌜ Found (readCell (colOf c []) (take k (slotsOf (now (flags .entry)) (now (values .entry)))) (self .at) (slice (self .at) (self .at + c .width) (now (line .entry)))) r (self .at) (c .width) (slice (self .at) (self .at + c .width) (now (line .entry))) ⌝ }
-    {
-        let required = c.b == 1;
-        let low = c.low;
-        let high = c.high;
-        let width = c.width;
-        let a = c.a;
-        if c.kind == INTEGER {
-            let got = self.integer(line, width);
-            let field = got.field;
-            let next = got.next;
-            return CellRead {
-                cell: judged(field, required, a, low, high, flags, values, k),
-                next,
-            };
-        }
-        let got = self.decimal(line, width, a);
-        let field = got.field;
-        let next = got.next;
-        CellRead {
-            cell: judged(field, required, 0, low, high, flags, values, k),
+            cell: Cell::Refused(super::SEPARATOR, start + 1),
             next,
         }
     }
@@ -245,36 +230,53 @@ impl Cursor {
         self,
         line: &[u8],
         c: Column,
+        ranges: &[i64],
         letters: &[u8],
         flags: &[u8],
         values: &[i64],
         k: usize,
     ) -> CellRead
-        requires { ⌜ (c .a + c .b ≤ 131072) × Readable (colOf c (now letters)) (c .width) (self .at) (length (now line)) k (length (now flags)) (length (now values)) ⌝ }
-        ensures { λ r. ⌜ Found (readCell (colOf c (now (letters .entry))) (take k (slotsOf (now (flags .entry)) (now (values .entry)))) (self .at) (slice (self .at) (self .at + c .width) (now (line .entry)))) r (self .at) (c .width) (slice (self .at) (self .at + c .width) (now (line .entry))) ⌝ }
+        requires { ⌜ (c .place < 512) × ((c .last < 128) × Readable (colOf c (now ranges) (now letters)) (self .at) (length (now line)) k (length (now flags)) (length (now values))) ⌝ }
+        ensures { λ r. ⌜ Found (readCell (colOf c (now (ranges .entry)) (now (letters .entry))) (take k (slotsOf (now (flags .entry)) (now (values .entry)))) (self .at) (slice (self .at) (self .at + width (colOf c (now (ranges .entry)) (now (letters .entry)))) (now (line .entry)))) r (self .at) (width (colOf c (now (ranges .entry)) (now (letters .entry)))) (slice (self .at) (self .at + width (colOf c (now (ranges .entry)) (now (letters .entry)))) (now (line .entry))) ⌝ }
     {
+        let at = self.at;
         let kind = c.kind;
-        let width = c.width;
-        let a = c.a;
-        let b = c.b;
-        if kind < TEXT {
-            return self.number(line, c, flags, values, k);
-        }
-        if kind == TEXT {
-            return self.text(line, width, b == 1);
-        }
-        if kind == LETTER {
-            return self.letter(line, letters, a, a + b);
-        }
-        if kind == CLOCK {
-            let got = self.time(line);
-            let time = got.time;
+        let place = c.place;
+        let last = c.last;
+        if kind == 0 {
+            let got = self.integer(line, c.width);
+            let field = got.field;
             let next = got.next;
             return CellRead {
-                cell: timed(time),
+                cell: judged(field, at, c, ranges, flags, values, k),
                 next,
             };
         }
-        self.separator(line)
+        if kind == 1 {
+            let got = self.decimal(line, c.width, place);
+            let field = got.field;
+            let next = got.next;
+            return CellRead {
+                cell: judged(field, at, c, ranges, flags, values, k),
+                next,
+            };
+        }
+        if kind == 2 {
+            return self.text(line, c.width, last);
+        }
+        if kind == 3 {
+            return self.letter(line, letters, place, place + last);
+        }
+        if kind == 4 {
+            let g = group_at(last);
+            let got = self.group(line, g);
+            let three = got.three;
+            let next = got.next;
+            return CellRead {
+                cell: grouped(three, at, g),
+                next,
+            };
+        }
+        self.blanks(line, c.width)
     }
 }

@@ -1,12 +1,14 @@
 // Columns and numbers: the lowest of the three layers. A line format is a table of columns; one reader and one writer
 // interpret any table.
 pub mod bytes;
-pub mod clock;
 pub mod column;
 pub mod cursor;
+pub mod group;
 pub mod judge;
 pub mod number;
 pub mod reader;
+pub mod row;
+pub mod word;
 pub mod writer;
 pub mod written;
 

@@ -2,10 +2,13 @@
 use super::bytes::is_digit;
 use super::bytes::skip_blanks;
 ghost use mathlib.Core.Path.{_≡_};
-ghost use Prim.Native.Nat.{_+_, _-_, _*_, _^_, _≤_, _<_};
+ghost use Prim.Native.Nat.{ℕ, _+_, _-_, _*_, _^_, _≤_, _<_};
 ghost use lib.ListN.{length};
 ghost use lib.Seq.{slice};
-ghost use Rattle.columns.specs.Number.{digits, number, scan, fraction, magnitude, signed, withSign, value, intField, decField};
+ghost use lib.Dec.{T};
+ghost use mathlib.Core.Bool.{false};
+ghost use mathlib.Core.List.{List, _∷_};
+ghost use Rattle.columns.specs.Number.{digits, number, scan, fraction, magnitude, signed, withSign, value, intField, decField, plainScan, Quick, formWidth, goodForm, fieldOf};
 
 // Digits to the last column.
 pub enum Digits {
@@ -25,6 +28,19 @@ pub enum Field {
     Missing,
     Value(i64),
     Bad,
+}
+
+// The form of a number: iW, or fW.D.
+pub enum Form {
+    Integer(usize),
+    Decimal(usize, usize),
+}
+
+// Blanks and then digits: nothing but blanks, the number, or anything else.
+pub enum Plain {
+    Blank,
+    Number(u64),
+    Other,
 }
 
 // The digits from `from` to `to`, after the number `before`.
@@ -121,12 +137,63 @@ fn field_of(s: Scan) -> Field
     }
 }
 
-// The integer field in the `width` columns after the first `at`.
-pub fn read_int(line: &[u8], at: usize, width: usize) -> Field
+// Blanks and then digits from `from` to `to`, in one loop: called with a constant width it is unrolled.
+pub fn read_plain(line: &[u8], from: usize, to: usize) -> Plain
+    requires { ⌜ (from ≤ to) × ((to ≤ length (now line)) × (to - from ≤ 18)) ⌝ }
+    ensures { λ r. ⌜ r ≡ plainScan false 0 (slice from to (now (line .entry))) ⌝ }
+{
+    let mut n: u64 = 0;
+    let mut any = false;
+    let mut i = from;
+    while i < to {
+        let b = line[i];
+        if is_digit(b) {
+            n = n * 10 + ((b - 48) as u64);
+            any = true;
+        } else if any {
+            return Plain::Other;
+        } else if b != 32 {
+            return Plain::Other;
+        }
+        i += 1;
+    }
+    if any {
+        return Plain::Number(n);
+    }
+    Plain::Blank
+}
+
+// The usual widths as constants; other widths go the general way.
+fn quick(line: &[u8], at: usize, width: usize) -> Plain
+    requires { ⌜ at + width ≤ length (now line) ⌝ }
+    ensures { λ r. ⌜ Quick r (slice at (at + width) (now (line .entry))) ⌝ }
+{
+    match width {
+        2 => read_plain(line, at, at + 2),
+        3 => read_plain(line, at, at + 3),
+        4 => read_plain(line, at, at + 4),
+        _ => Plain::Other,
+    }
+}
+
+// The integer field in the `width` columns after the first `at`, whatever it holds.
+pub fn read_any_int(line: &[u8], at: usize, width: usize) -> Field
     requires { ⌜ (at + width ≤ length (now line)) × (width ≤ 18) ⌝ }
     ensures { λ r. ⌜ r ≡ intField (slice at (at + width) (now (line .entry))) ⌝ }
 {
     field_of(scan_whole(line, at, at + width))
+}
+
+// The same, the usual case first.
+pub fn read_int(line: &[u8], at: usize, width: usize) -> Field
+    requires { ⌜ (at + width ≤ length (now line)) × (width ≤ 18) ⌝ }
+    ensures { λ r. ⌜ r ≡ intField (slice at (at + width) (now (line .entry))) ⌝ }
+{
+    match quick(line, at, width) {
+        Plain::Number(n) => Field::Value(n as i64),
+        Plain::Blank => Field::Missing,
+        Plain::Other => read_any_int(line, at, width),
+    }
 }
 
 // The decimal field in the `width` columns after the first `at`, with a number of decimals.
@@ -138,4 +205,25 @@ pub fn read_dec(line: &[u8], at: usize, width: usize, decimals: usize) -> Field
     let point = end - (decimals + 1);
     let whole = scan_whole(line, at, point);
     field_of(scan_fraction(line, point, end, whole))
+}
+
+// The columns that a number of a form takes.
+pub fn width_of(form: Form) -> usize
+    ensures { λ r. ⌜ r ≡ formWidth form ⌝ }
+{
+    match form {
+        Form::Integer(width) => width,
+        Form::Decimal(width, _) => width,
+    }
+}
+
+// The number of a form in the columns after the first `at`.
+pub fn read_number(line: &[u8], at: usize, form: Form) -> Field
+    requires { ⌜ (at + formWidth form ≤ length (now line)) × T (goodForm form) ⌝ }
+    ensures { λ r. ⌜ r ≡ fieldOf form (slice at (at + formWidth form) (now (line .entry))) ⌝ }
+{
+    match form {
+        Form::Integer(width) => read_any_int(line, at, width),
+        Form::Decimal(width, decimals) => read_dec(line, at, width, decimals),
+    }
 }

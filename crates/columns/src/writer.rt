@@ -4,33 +4,33 @@ use super::bytes::blanks;
 use super::bytes::copy;
 use super::bytes::first_barred;
 use super::bytes::has;
-use super::clock::write_clock;
-use super::column::CLOCK;
 use super::column::Column;
-use super::column::INTEGER;
-use super::column::TEXT;
 use super::column::allows;
-use super::column::column_at;
-use super::column::slots_of;
-use super::column::texts_of;
-use super::written::holds_dec;
-use super::written::holds_int;
-use super::written::write_dec;
-use super::written::write_int;
+use super::column::column_in;
+use super::column::form_in;
+use super::column::slots_in;
+use super::column::texts_in;
+use super::column::width_in;
+use super::group::group_at;
+use super::group::write_group;
+use super::number::Form;
+use super::written::holds_number;
+use super::written::write_number;
 ghost use mathlib.Core.Path.{_≡_};
-ghost use mathlib.Core.Bool.{false, _&&_};
+ghost use mathlib.Core.Bool.{false};
 ghost use mathlib.Core.List.{[], _∷_};
-ghost use Prim.Native.Nat.{_+_, _*_, _≤_, _<_};
+ghost use Prim.Native.Nat.{_+_, _≤_, _<_};
 ghost use lib.ListN.{length, take, drop, getD, replicate};
 ghost use lib.Seq.{slice};
-ghost use lib.Dec.{T, eqb};
+ghost use lib.Dec.{T};
 ghost use lib.IntN.{pos};
 ghost use Rattle.columns.specs.Answer.{pick, ok, refusal, requiredBlank, wrongLetter};
 ghost use Rattle.columns.specs.Bytes.{member};
-ghost use Rattle.columns.specs.Number.{holdsInt, intBytes, holdsDec, decBytes};
-ghost use Rattle.columns.specs.Column.{width, slots, texts, goodCol, widths};
+ghost use Rattle.columns.specs.Number.{formWidth, goodForm};
+ghost use Rattle.columns.specs.Column.{ruleBars, width, slots, texts, goodCol, widths};
+ghost use Rattle.columns.specs.Reading.{judgeText};
 ghost use Rattle.columns.specs.Writing.{barredIn, putNumber, putText, writeCell, writeColumns, writeLine, writePart};
-ghost use Rattle.columns.specs.Table.{colOf, columnsOf, slotOf, slotsOf, Wrote, WrotePart, Ready, Table};
+ghost use Rattle.columns.specs.Table.{ruleAt, colOf, columnsOf, slotOf, slotsOf, Wrote, WrotePart, Ready, Table};
 
 // ---- one field: what is refused leaves `out` as it was
 
@@ -45,47 +45,29 @@ fn write_missing(out: &mut [u8], at: usize, required: bool) -> Outcome
     Outcome::Done
 }
 
-// An integer field; `fits` is the outcome of the range step.
-fn put_int(out: &mut [u8], at: usize, required: bool, fits: bool, there: u8, v: i64) -> Outcome
-    requires { ⌜ (at ≤ 4096) × ((1 ≤ length (now out)) × (length (now out) ≤ 18)) ⌝ }
-    ensures { λ r. ⌜ Wrote (putNumber (length (now (out .entry))) required (λ x. fits) at (holdsInt (length (now (out .entry)))) (intBytes (length (now (out .entry)))) (slotOf there v)) r (now (out .entry)) (now (out .exit)) ⌝ }
-{
-    if there == 0 {
-        return write_missing(out, at, required);
-    }
-    if !holds_int(out.len(), v) {
-        return Outcome::Refused(super::WIDE, at + 1);
-    }
-    if !fits {
-        return Outcome::Refused(super::RANGE, at + 1);
-    }
-    write_int(out, v);
-    Outcome::Done
-}
-
-// A decimal field; `fits` is the outcome of the range step.
-fn put_dec(
+// A number's field; `fits` is the outcome of the range step.
+fn put_number(
     out: &mut [u8],
     at: usize,
-    decimals: usize,
+    form: Form,
     required: bool,
     fits: bool,
     there: u8,
     v: i64,
 ) -> Outcome
-    requires { ⌜ (at ≤ 4096) × ((decimals + 3 ≤ length (now out)) × (length (now out) ≤ 18)) ⌝ }
-    ensures { λ r. ⌜ Wrote (putNumber (length (now (out .entry))) required (λ x. fits) at (holdsDec (length (now (out .entry)))) (decBytes (length (now (out .entry))) decimals) (slotOf there v)) r (now (out .entry)) (now (out .exit)) ⌝ }
+    requires { ⌜ (at ≤ 4096) × ((length (now out) ≡ formWidth form) × T (goodForm form)) ⌝ }
+    ensures { λ r. ⌜ Wrote (putNumber form required (λ x. fits) at (slotOf there v)) r (now (out .entry)) (now (out .exit)) ⌝ }
 {
     if there == 0 {
         return write_missing(out, at, required);
     }
-    if !holds_dec(out.len(), v) {
+    if !holds_number(form, v) {
         return Outcome::Refused(super::WIDE, at + 1);
     }
     if !fits {
         return Outcome::Refused(super::RANGE, at + 1);
     }
-    write_dec(out, decimals, v);
+    write_number(out, form, v);
     Outcome::Done
 }
 
@@ -113,18 +95,18 @@ fn put_plain(out: &mut [u8], at: usize, bars: bool, s: &[u8]) -> Outcome
     Outcome::Done
 }
 
-// Text, which may have to begin with no blank.
-fn put_text(out: &mut [u8], at: usize, required: bool, bars: bool, s: &[u8]) -> Outcome
+// Text with its rule.
+fn put_text(out: &mut [u8], at: usize, rule: usize, s: &[u8]) -> Outcome
     requires { ⌜ (at + length (now s) ≤ 4096) × ((1 ≤ length (now s)) × (length (now out) ≡ length (now s))) ⌝ }
-    ensures { λ r. ⌜ Wrote (pick (required && eqb (getD (now (s .entry)) 0 0) 32) (refusal requiredBlank (at + 1)) (putText bars at (now (s .entry)) (ok (now (s .entry))))) r (now (out .entry)) (now (out .exit)) ⌝ }
+    ensures { λ r. ⌜ Wrote (judgeText (ruleAt rule) at (now (s .entry)) (putText (ruleBars (ruleAt rule)) at (now (s .entry)) (ok (now (s .entry))))) r (now (out .entry)) (now (out .exit)) ⌝ }
 {
-    if !required {
-        return put_plain(out, at, bars, s);
+    if rule < 2 {
+        return put_plain(out, at, rule == 1, s);
     }
     if s[0] == 32 {
         return Outcome::Refused(super::REQUIRED, at + 1);
     }
-    put_plain(out, at, bars, s)
+    put_plain(out, at, false, s)
 }
 
 // A letter of those from place `from` to place `to`.
@@ -153,42 +135,35 @@ fn put_letter(
 // ---- a column of a table
 
 // A column that holds a number: the record's at place k.
-fn write_number(
+fn write_numeric(
     out: &mut [u8],
     at: usize,
     c: Column,
+    ranges: &[i64],
     flags: &[u8],
     values: &[i64],
     k: usize,
 ) -> Outcome
-    requires { ⌜ (c .kind < 2) × (T (goodCol (colOf c [])) × ((length (now out) ≡ c .width) × ((at ≤ 4096) × ((length (now flags) ≡ length (now values)) × (k < length (now flags)))))) ⌝ }
-    ensures { λ r. ⌜ Wrote (writeCell (colOf c []) (take k (slotsOf (now (flags .entry)) (now (values .entry)))) at (slotOf (getD (now (flags .entry)) k 0) (getD (now (values .entry)) k (pos 0)) ∷ []) []) r (now (out .entry)) (now (out .exit)) ⌝ }
+    requires { ⌜ (c .kind < 2) × ((c .last < 128) × (T (goodCol (colOf c (now ranges) [])) × ((length (now out) ≡ width (colOf c (now ranges) [])) × ((at ≤ 4096) × ((length (now flags) ≡ length (now values)) × (k < length (now flags))))))) ⌝ }
+    ensures { λ r. ⌜ Wrote (writeCell (colOf c (now (ranges .entry)) []) (take k (slotsOf (now (flags .entry)) (now (values .entry)))) at (slotOf (getD (now (flags .entry)) k 0) (getD (now (values .entry)) k (pos 0)) ∷ []) []) r (now (out .entry)) (now (out .exit)) ⌝ }
 {
-    let required = c.b == 1;
-    let low = c.low;
-    let high = c.high;
     let there = flags[k];
     let v = values[k];
-    let a = c.a;
-    if c.kind == INTEGER {
-        let fits = allows(a, low, high, flags, values, k, v);
-        return put_int(out, at, required, fits, there, v);
-    }
-    let fits = allows(0, low, high, flags, values, k, v);
-    put_dec(out, at, a, required, fits, there, v)
+    let fits = allows(ranges, c.last, flags, values, k, v);
+    put_number(out, at, form_in(c), c.required, fits, there, v)
 }
 
 // A column that holds text or a letter.
 fn write_chars(out: &mut [u8], at: usize, c: Column, letters: &[u8], s: &[u8]) -> Outcome
-    requires { ⌜ (2 ≤ c .kind) × ((c .kind < 4) × (T (goodCol (colOf c (now letters))) × ((length (now out) ≡ width (colOf c (now letters))) × ((length (now s) ≡ texts (colOf c (now letters))) × ((at + length (now s) ≤ 4096) × (c .a + c .b ≤ 131072)))))) ⌝ }
-    ensures { λ r. ⌜ Wrote (writeCell (colOf c (now (letters .entry))) [] at [] (now (s .entry))) r (now (out .entry)) (now (out .exit)) ⌝ }
+    requires { ⌜ (2 ≤ c .kind) × ((c .kind < 4) × ((c .place < 512) × ((c .last < 128) × (T (goodCol (colOf c [] (now letters))) × ((length (now out) ≡ width (colOf c [] (now letters))) × ((length (now s) ≡ texts (colOf c [] (now letters))) × (at + length (now s) ≤ 4096))))))) ⌝ }
+    ensures { λ r. ⌜ Wrote (writeCell (colOf c [] (now (letters .entry))) [] at [] (now (s .entry))) r (now (out .entry)) (now (out .exit)) ⌝ }
 {
-    let a = c.a;
-    let b = c.b;
-    if c.kind == TEXT {
-        return put_text(out, at, b == 1, a == 1, s);
+    let place = c.place;
+    let last = c.last;
+    if c.kind == 2 {
+        return put_text(out, at, last, s);
     }
-    put_letter(out, at, letters, a, a + b, s)
+    put_letter(out, at, letters, place, place + last, s)
 }
 
 // Any column, its numbers from place k and its text from place t of the record.
@@ -196,6 +171,7 @@ fn write_cell(
     out: &mut [u8],
     at: usize,
     c: Column,
+    ranges: &[i64],
     letters: &[u8],
     flags: &[u8],
     values: &[i64],
@@ -203,19 +179,19 @@ fn write_cell(
     text: &[u8],
     t: usize,
 ) -> Outcome
-    requires { ⌜ Ready (colOf c (now letters)) (length (now out)) at k (length (now flags)) (length (now values)) t (length (now text)) × ((length (now out) ≡ c .width) × (c .a + c .b ≤ 131072)) ⌝ }
-    ensures { λ r. ⌜ Wrote (writeCell (colOf c (now (letters .entry))) (take k (slotsOf (now (flags .entry)) (now (values .entry)))) at (take (slots (colOf c (now (letters .entry)))) (drop k (slotsOf (now (flags .entry)) (now (values .entry))))) (take (texts (colOf c (now (letters .entry)))) (drop t (now (text .entry))))) r (now (out .entry)) (now (out .exit)) ⌝ }
+    requires { ⌜ Ready (colOf c (now ranges) (now letters)) (length (now out)) at k (length (now flags)) (length (now values)) t (length (now text)) × ((c .place < 512) × (c .last < 128)) ⌝ }
+    ensures { λ r. ⌜ Wrote (writeCell (colOf c (now (ranges .entry)) (now (letters .entry))) (take k (slotsOf (now (flags .entry)) (now (values .entry)))) at (take (slots (colOf c (now (ranges .entry)) (now (letters .entry)))) (drop k (slotsOf (now (flags .entry)) (now (values .entry))))) (take (texts (colOf c (now (ranges .entry)) (now (letters .entry)))) (drop t (now (text .entry))))) r (now (out .entry)) (now (out .exit)) ⌝ }
 {
     let kind = c.kind;
-    if kind < TEXT {
-        return write_number(out, at, c, flags, values, k);
+    if kind < 2 {
+        return write_numeric(out, at, c, ranges, flags, values, k);
     }
-    if kind < CLOCK {
+    if kind < 4 {
         let end = t + out.len();
         return write_chars(out, at, c, letters, &text[t..end]);
     }
-    if kind == CLOCK {
-        return write_clock(out, at, flags, values, k);
+    if kind == 4 {
+        return write_group(out, at, group_at(c.last), flags, values, k);
     }
     blanks(out);
     Outcome::Done
@@ -223,32 +199,43 @@ fn write_cell(
 
 // ---- the table
 
-// The first n columns of a table, written into `out` after its first `start` bytes. Where one is refused, those before it
-// are written.
+// n columns of a table from its row `first` on, written into `out` after its first `start` bytes. Where one is refused, those
+// before it are written.
 pub fn put_columns(
     flags: &[u8],
     values: &[i64],
     text: &[u8],
-    shape: &[u16],
+    rows: &[u32],
+    first: usize,
+    n: usize,
     ranges: &[i64],
     letters: &[u8],
-    n: usize,
     out: &mut [u8],
     start: usize,
 ) -> Outcome
-    requires { ⌜ (n * 4 ≤ length (now shape)) × ((n * 2 ≤ length (now ranges)) × Table (columnsOf (now shape) (now ranges) (now letters) 0 n) start (length (now out)) 0 (length (now flags)) (length (now values)) 0 (length (now text))) ⌝ }
-    ensures { λ r. ⌜ WrotePart (writeColumns (columnsOf (now (shape .entry)) (now (ranges .entry)) (now (letters .entry)) 0 n) [] start (slotsOf (now (flags .entry)) (now (values .entry))) (now (text .entry))) (writePart (columnsOf (now (shape .entry)) (now (ranges .entry)) (now (letters .entry)) 0 n) [] start (slotsOf (now (flags .entry)) (now (values .entry))) (now (text .entry))) start r (now (out .entry)) (now (out .exit)) ⌝ }
+    requires { ⌜ (first + n ≤ length (now rows)) × Table (columnsOf (now rows) (now ranges) (now letters) first n) start (length (now out)) 0 (length (now flags)) (length (now values)) 0 (length (now text)) ⌝ }
+    ensures { λ r. ⌜ WrotePart (writeColumns (columnsOf (now (rows .entry)) (now (ranges .entry)) (now (letters .entry)) first n) [] start (slotsOf (now (flags .entry)) (now (values .entry))) (now (text .entry))) (writePart (columnsOf (now (rows .entry)) (now (ranges .entry)) (now (letters .entry)) first n) [] start (slotsOf (now (flags .entry)) (now (values .entry))) (now (text .entry))) start r (now (out .entry)) (now (out .exit)) ⌝ }
 {
+    let last = first + n;
     let mut at = start;
     let mut k = 0;
     let mut t = 0;
-    let mut i = 0;
-    while i < n {
-        let c = column_at(shape, ranges, i);
-        let kind = c.kind;
-        let width = c.width;
-        let end = at + width;
-        let r = write_cell(&mut out[at..end], at, c, letters, flags, values, k, text, t);
+    let mut i = first;
+    while i < last {
+        let c = column_in(rows[i]);
+        let end = at + width_in(c);
+        let r = write_cell(
+            &mut out[at..end],
+            at,
+            c,
+            ranges,
+            letters,
+            flags,
+            values,
+            k,
+            text,
+            t,
+        );
         match r {
             Outcome::Done => {}
             Outcome::Refused(m, column) => {
@@ -256,8 +243,8 @@ pub fn put_columns(
             }
         }
         at = end;
-        k += slots_of(kind);
-        t += texts_of(kind, width);
+        k += slots_in(c);
+        t += texts_in(c);
         i += 1;
     }
     Outcome::Done
@@ -268,21 +255,33 @@ pub fn write_columns(
     flags: &[u8],
     values: &[i64],
     text: &[u8],
-    shape: &[u16],
+    rows: &[u32],
+    first: usize,
+    n: usize,
     ranges: &[i64],
     letters: &[u8],
-    n: usize,
     width: usize,
     out: &mut [u8],
 ) -> Outcome
-    requires { ⌜ (n * 4 ≤ length (now shape)) × ((n * 2 ≤ length (now ranges)) × ((width ≡ widths (columnsOf (now shape) (now ranges) (now letters) 0 n)) × Table (columnsOf (now shape) (now ranges) (now letters) 0 n) 0 512 0 (length (now flags)) (length (now values)) 0 (length (now text)))) ⌝ }
-    ensures { λ r. ⌜ Wrote (writeLine (columnsOf (now (shape .entry)) (now (ranges .entry)) (now (letters .entry)) 0 n) (slotsOf (now (flags .entry)) (now (values .entry))) (now (text .entry)) (length (now (out .entry)))) r (now (out .entry)) (now (out .exit)) ⌝ }
+    requires { ⌜ (first + n ≤ length (now rows)) × ((width ≡ widths (columnsOf (now rows) (now ranges) (now letters) first n)) × Table (columnsOf (now rows) (now ranges) (now letters) first n) 0 512 0 (length (now flags)) (length (now values)) 0 (length (now text))) ⌝ }
+    ensures { λ r. ⌜ Wrote (writeLine (columnsOf (now (rows .entry)) (now (ranges .entry)) (now (letters .entry)) first n) (slotsOf (now (flags .entry)) (now (values .entry))) (now (text .entry)) (length (now (out .entry)))) r (now (out .entry)) (now (out .exit)) ⌝ }
 {
     if out.len() < width {
         return Outcome::Refused(super::SHORT, 0);
     }
     let mut line = [32u8; 512];
-    let r = put_columns(flags, values, text, shape, ranges, letters, n, &mut line, 0);
+    let r = put_columns(
+        flags,
+        values,
+        text,
+        rows,
+        first,
+        n,
+        ranges,
+        letters,
+        &mut line,
+        0,
+    );
     let mut count = width;
     if let Outcome::Refused(_, _) = r {
         count = 0;

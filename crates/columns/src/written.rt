@@ -1,10 +1,13 @@
 // Number fields iW and fW.D, written.
+use super::number::Form;
 ghost use mathlib.Core.Path.{_≡_};
 ghost use mathlib.Core.Bool.{true};
-ghost use Prim.Native.Nat.{_+_, _^_, _≤_};
+ghost use mathlib.Core.List.{_∷_, _++_};
+ghost use Prim.Native.Nat.{_+_, _-_, _/_, _^_, _≤_};
 ghost use lib.ListN.{length};
 ghost use lib.IntN.{natAbs};
-ghost use Rattle.columns.specs.Number.{digitsOf, intBytes, holdsInt, holdsDec, byteOf, nextPen, back, decBytes};
+ghost use lib.Dec.{T};
+ghost use Rattle.columns.specs.Number.{digitsOf, intBytes, holdsInt, holdsDec, byteOf, nextPen, back, decBytes, formWidth, goodForm, holds, fieldBytes, zeroFilled};
 
 // The last digits of n, as many as `out` has places.
 pub fn write_digits(out: &mut [u8], n: u64)
@@ -151,4 +154,51 @@ pub fn write_dec(out: &mut [u8], decimals: usize, v: i64)
         left: whole,
     };
     write_back(&mut out[..point], pen);
+}
+
+// ---- a number of either form
+
+// Whether a field of a form holds v.
+pub fn holds_number(form: Form, v: i64) -> bool
+    requires { ⌜ T (goodForm form) ⌝ }
+    ensures { λ r. ⌜ r ≡ holds form v ⌝ }
+{
+    match form {
+        Form::Integer(width) => holds_int(width, v),
+        Form::Decimal(width, _) => holds_dec(width, v),
+    }
+}
+
+// The field of a form that `out` is, where it holds the number.
+pub fn write_number(out: &mut [u8], form: Form, v: i64)
+    requires { ⌜ (length (now out) ≡ formWidth form) × (T (goodForm form) × (holds form v ≡ true)) ⌝ }
+    ensures { λ _. ⌜ now (out .exit) ≡ fieldBytes form v ⌝ }
+{
+    match form {
+        Form::Integer(_) => write_int(out, v),
+        Form::Decimal(_, decimals) => write_dec(out, decimals, v),
+    }
+}
+
+// A whole part and `decimals` digits after a point, filled with zeros.
+fn write_zero_dec(out: &mut [u8], decimals: usize, n: u64)
+    requires { ⌜ (decimals + 1 ≤ length (now out)) × (decimals ≤ 18) ⌝ }
+    ensures { λ _. ⌜ now (out .exit) ≡ digitsOf (length (now (out .entry)) - (decimals + 1)) (n / 10 ^ decimals) ++ 46 ∷ digitsOf decimals n ⌝ }
+{
+    let point = out.len() - (decimals + 1);
+    let whole = n / power(decimals);
+    write_digits(&mut out[point + 1..], n);
+    out[point] = 46;
+    write_digits(&mut out[..point], whole);
+}
+
+// The field of a form that `out` is, filled with zeros.
+pub fn write_zeros(out: &mut [u8], form: Form, n: u64)
+    requires { ⌜ (length (now out) ≡ formWidth form) × T (goodForm form) ⌝ }
+    ensures { λ _. ⌜ now (out .exit) ≡ zeroFilled form n ⌝ }
+{
+    match form {
+        Form::Integer(_) => write_digits(out, n),
+        Form::Decimal(_, decimals) => write_zero_dec(out, decimals, n),
+    }
 }

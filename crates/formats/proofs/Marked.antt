@@ -1,19 +1,15 @@
 -- The marked values, as one table: f5.1 read and written, and check characters. Document 01, "Marked values".
-use mathlib.Core.Path.{_≡_, refl}
+use mathlib.Core.Path.{_≡_}
 use mathlib.Core.List.{List, [], _∷_, map}
 use Prim.Native.Nat.{ℕ}
 use lib.IntN.{ℤ, pos, negsuc}
 use Rattle.columns.specs.Answer.{Answer, ok, refusal, badForm, tooWide}
-use Rattle.columns.specs.Bytes.{trim}
-use Rattle.columns.specs.Number.{digits, number, signedNumber, scan, fraction, decField, holdsDec}
-use Rattle.columns.specs.Column.{Slot, missing, given, Rec, allowed, span, optional, Col, decimal}
+use Rattle.columns.specs.Column.{Slot, missing, given, Rec}
 use Rattle.columns.specs.Reading.{readCell}
 use Rattle.columns.specs.Writing.{writeCell}
+use Rattle.columns.proofs.laws.Marked.{f51}
+use Rattle.columns.proofs.laws.Marked.{marked as fields}
 use Rattle.formats.specs.Check.{checkSum, checkCharacter}
-
--- a field of columns 1 to 5 that holds any number that f5.1 can hold
-abbrev f51 : Col
-f51 = decimal 5 1 optional (span (negsuc 998) (pos 9999))
 
 -- what is asked of the field or of some bytes, and what is answered: a number, the number of a refusal, a character
 pub data Asked : Type 0 where
@@ -72,5 +68,6 @@ table =
     ∷ []
 
 pub marked : map (λ r. answer (r .asked)) table ≡ map (λ r. r .answered) table
-unfolding checkCharacter checkSum readCell writeCell allowed decField holdsDec fraction scan signedNumber number digits trim
-marked = refl
+unfolding checkCharacter checkSum
+marked =
+    rw (fields .blank, fields .none, fields .minus-none, fields .minus-half, fields .lowest, fields .highest, fields .no-digit, fields .blank-after, fields .too-high, fields .too-low)

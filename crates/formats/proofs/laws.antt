@@ -6,8 +6,6 @@ pub mod CubeWriting
 pub mod LinkLine
 pub mod LinkBack
 pub mod CubeBack
-pub mod Tri
-pub mod Words
 pub mod CubeThere
 pub mod CubeRecord
 pub mod CubeRecordBack
@@ -15,10 +13,10 @@ pub mod CubeFields
 pub mod LinkFields
 pub mod LinkRecord
 pub mod Lines
-pub mod Phase
-pub mod PhaseBack
-pub mod PhaseRecord
-pub mod PhaseRecordBack
+pub mod Format
+pub mod Row
+pub mod RowRecord
+pub mod RowRecordBack
 pub mod Judge
 pub mod BlockLine
 pub mod BlockReader

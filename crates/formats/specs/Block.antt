@@ -1,4 +1,4 @@
--- The ISF phase block, as it is read. Document 01, "The block".
+-- A block of rows, as it is read, over its header and the reader of its lines. Document 01, "The block".
 use Prim.Native.Nat.{ℕ, suc, _+_}
 use mathlib.Core.List.{List, [], _∷_}
 use mathlib.Core.Bool.{Bool, true, false}
@@ -7,11 +7,10 @@ use lib.Dec.{eqb, ltb}
 use Rattle.columns.specs.Answer.{pick, Answer, ok, refusal, barredByte}
 use Rattle.columns.specs.Bytes.{isNone}
 use Rattle.columns.specs.Column.{Rec}
-use Rattle.formats.specs.Cube.{unless, differs, wrongLength}
+use Rattle.columns.specs.Answer.{unless, differs, wrongLength}
 use Rattle.formats.specs.Lines.{linesOf}
-use Rattle.formats.specs.Phase.{lowestBarredByte, readPhase}
-use Rattle.formats.specs.Record.{sameBytes}
-use Rattle.formats.specs.Header.{phaseHeader}
+use Rattle.formats.specs.Row.{RowFormat, lowestBarredByte, readRow}
+use Rattle.columns.specs.Bytes.{sameBytes}
 use Rattle.formats.specs.declared.block.Block.{Block}
 use Rattle.formats.specs.declared.block.Block.the-variants as B
 
@@ -45,19 +44,19 @@ abbrev pub isHeader : List ℕ → List ℕ → Bool
 isHeader header l = sameBytes (trimEnd l) header
 
 -- after the header, a line of blanks only (or of no bytes) closes the block; a comment begins with a blank and `(`; every
--- other line is read as a phase line
+-- other line is read as a row of the format, as a phase line in its block
 pub data Kind : Type 0 where
   closing : Kind
   comment : Kind
-  phase : Kind
+  row : Kind
 
 abbrev pub beginsComment : List ℕ → Bool
 beginsComment l = pick (eqb (getD l 0 0) 32) (eqb (getD l 1 0) 40) false
 
 abbrev pub kindOf : List ℕ → Kind
-kindOf l = pick (isNone (trimEnd l)) closing (pick (beginsComment l) comment phase)
+kindOf l = pick (isNone (trimEnd l)) closing (pick (beginsComment l) comment row)
 
--- a comment has at most 1,024 bytes and its last non-blank is `)`; it stands after a phase line, where one was `seen`
+-- a comment has at most 1,024 bytes and its last non-blank is `)`; it stands after a row, where one was `seen`
 -- order: 1, 2, 15, 14
 unfoldable pub readComment : Bool → List ℕ → Answer (List ℕ)
 readComment seen l =
@@ -66,7 +65,7 @@ readComment seen l =
     (unless (differs (lastByte (trimEnd l)) 41) notClosed 0
     (pick seen (ok l) (refusal outOfPlace 0))))
 
--- ---- the lines of a block: the answer has the phase count, the comment count and the bytes used; or a refusal's number,
+-- ---- the lines of a block: the answer has the count of rows, the comment count and the bytes used; or a refusal's number,
 -- column and line
 
 -- a line that was read adds to what is answered for the lines after it
@@ -83,21 +82,22 @@ onLine n (ok x) rest = rest
 abbrev pub withNewline : List ℕ → ℕ
 withNewline l = length l + 1
 
--- line n, a line of the given kind; `rest` is what is answered for the lines after it, by whether a phase line was seen
-abbrev pub readLine : Kind → ℕ → Bool → List ℕ → (Bool → Block) → Block
-readLine closing n seen l rest = B.Read 0 0 (withNewline l)
-readLine comment n seen l rest = onLine n (readComment seen l) (plus 0 1 (withNewline l) (rest seen))
-readLine phase n seen l rest = onLine n (readPhase l) (plus 1 0 (withNewline l) (rest true))
+-- line n, a line of the given kind; `rest` is what is answered for the lines after it, by whether a row was seen
+abbrev pub readLine : (List ℕ → Answer Rec) → Kind → ℕ → Bool → List ℕ → (Bool → Block) → Block
+readLine read closing n seen l rest = B.Read 0 0 (withNewline l)
+readLine read comment n seen l rest = onLine n (readComment seen l) (plus 0 1 (withNewline l) (rest seen))
+readLine read row n seen l rest = onLine n (read l) (plus 1 0 (withNewline l) (rest true))
 
 -- the lines from line n on, until a closing line or the end
-unfoldable pub readLines : ℕ → Bool → List (List ℕ) → Block
-readLines n seen [] = B.Read 0 0 0
-readLines n seen (l ∷ ls) = readLine (kindOf l) n seen l (λ s. readLines (suc n) s ls)
+unfoldable pub readLines : (List ℕ → Answer Rec) → ℕ → Bool → List (List ℕ) → Block
+readLines read n seen [] = B.Read 0 0 0
+readLines read n seen (l ∷ ls) = readLine read (kindOf l) n seen l (λ s. readLines read (suc n) s ls)
 
 -- the first line is the header, or 14 alone
-unfoldable pub readHeaded : List (List ℕ) → Block
-readHeaded [] = B.Refused outOfPlace 0 1
-readHeaded (l ∷ ls) = pick (isHeader phaseHeader l) (plus 0 0 (withNewline l) (readLines 2 false ls)) (B.Refused outOfPlace 0 1)
+unfoldable pub readHeaded : List ℕ → (List ℕ → Answer Rec) → List (List ℕ) → Block
+readHeaded header read [] = B.Refused outOfPlace 0 1
+readHeaded header read (l ∷ ls) =
+    pick (isHeader header l) (plus 0 0 (withNewline l) (readLines read 2 false ls)) (B.Refused outOfPlace 0 1)
 
 -- the block's last line may have no newline: no more bytes are used than there are
 abbrev pub atMost : ℕ → Block → Block
@@ -105,5 +105,10 @@ atMost size (B.Read phases comments used) = B.Read phases comments (pick (ltb si
 atMost size (B.Refused number column line) = B.Refused number column line
 
 -- at most 65,536 bytes
-unfoldable pub readBlock : List ℕ → Block
-readBlock b = pick (ltb 65536 (length b)) (B.Refused wrongLength 0 0) (atMost (length b) (readHeaded (linesOf b)))
+unfoldable pub readBlockBy : List ℕ → (List ℕ → Answer Rec) → List ℕ → Block
+readBlockBy header read b =
+    pick (ltb 65536 (length b)) (B.Refused wrongLength 0 0) (atMost (length b) (readHeaded header read (linesOf b)))
+
+-- the blocks of a row format
+abbrev pub readBlock : RowFormat → List ℕ → Block
+readBlock F b = readBlockBy (F .header) (readRow (F .columns)) b

@@ -1,11 +1,12 @@
--- What the code comes to at one line of a block: the phase and comment counts with it, the block's end, or its refusal.
+-- What the code comes to at one line of a block: the counts of rows and comments with it, the block's end, or its refusal.
 use Prim.Native.Nat.{ℕ, _+_}
 use mathlib.Core.List.{List}
 use lib.Dec.{ltb}
 use Rattle.columns.specs.Table.{outcomeOf}
 use Rattle.columns.specs.declared.Outcome.{Outcome}
-use Rattle.formats.specs.Phase.{readPhase}
-use Rattle.formats.specs.Block.{Kind, closing, comment, phase, readComment}
+use Rattle.columns.specs.Answer.{Answer}
+use Rattle.columns.specs.Column.{Rec}
+use Rattle.formats.specs.Block.{Kind, closing, comment, row, readComment}
 use Rattle.formats.specs.declared.block.Step.{Step}
 use Rattle.columns.specs.declared.Outcome.the-variants as O
 use Rattle.formats.specs.declared.block.Step.the-variants as S
@@ -15,8 +16,8 @@ abbrev pub counted : Outcome → ℕ → ℕ → Step
 counted O.Done phases comments = S.Counted phases comments
 counted (O.Refused number column) phases comments = S.Refused number column
 
--- a line of a kind, after that many phase lines and comments
-abbrev pub stepOf : Kind → ℕ → ℕ → List ℕ → Step
-stepOf closing phases comments l = S.Closing
-stepOf comment phases comments l = counted (outcomeOf (readComment (ltb 0 phases) l)) phases (comments + 1)
-stepOf phase phases comments l = counted (outcomeOf (readPhase l)) (phases + 1) comments
+-- a line of a kind, after that many rows and comments
+abbrev pub stepOf : (List ℕ → Answer Rec) → Kind → ℕ → ℕ → List ℕ → Step
+stepOf read closing rows comments l = S.Closing
+stepOf read comment rows comments l = counted (outcomeOf (readComment (ltb 0 rows) l)) rows (comments + 1)
+stepOf read row rows comments l = counted (outcomeOf (read l)) (rows + 1) comments

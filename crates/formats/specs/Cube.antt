@@ -1,25 +1,22 @@
 -- CUBE lines: E, DE and LI messages, as they are read and written. Document 01, "The E line", "The DE line"; document 02,
 -- "Take the links".
-use Prim.Native.Nat.{ℕ, _+_, _-_}
+use Prim.Native.Nat.{ℕ, _+_}
 use mathlib.Core.List.{List, [], _∷_, _++_}
-use mathlib.Core.Bool.{Bool, true, false, _&&_}
-use lib.IntN.{ℤ, pos, negsuc}
+use mathlib.Core.Bool.{Bool, _&&_}
+use lib.IntN.{pos}
 use lib.ListN.{length, take, drop, getD, replicate}
 use lib.Dec.{eqb, ltb}
-use Rattle.columns.specs.Answer.{pick, Answer, ok, refusal, barredByte, badForm, tooShort}
+use Rattle.columns.specs.Answer.{pick, Answer, ok, refusal, unless, differs, wrongLength, barredByte, badForm, tooShort}
 use Rattle.columns.specs.Bytes.{barred}
-use Rattle.columns.specs.Column.{Slot, Rec, Col, integer, text, span, required, optional, noBrackets, anyText}
+use Rattle.columns.specs.Column.{Slot, Rec, Col, integer, text, asHeld, notNegative, required, optional, noBrackets, anyText}
 use Rattle.columns.specs.Reading.{readColumns}
 use Rattle.columns.specs.Writing.{writeColumns}
 use Rattle.columns.specs.Table.{flagsOf, valuesOf, over}
+use Rattle.formats.specs.Ranges.{yearRange, monthRange, dayRange, hourRange, minuteRange, secondRange, latitudeRange, longitudeRange}
 use Rattle.formats.specs.Check.{checkCharacter}
 use Rattle.formats.specs.Link.{typeOf, addressOf, textOf, formed}
-use Rattle.formats.specs.declared.cube.Read.{Read}
 use Rattle.formats.specs.declared.cube.Read.the-variants as R
 use Rattle.formats.specs.declared.cube.LineRead.{LineRead}
-
-abbrev pub wrongLength : ℕ
-wrongLength = 1
 
 abbrev pub wrongType : ℕ
 wrongType = 3
@@ -31,38 +28,38 @@ wrongCheck = 9
 abbrev pub eventColumns : List Col
 eventColumns =
     -- 3-10 identifier, 11-12 source, 13 version
-    text 8 optional noBrackets
-    ∷ text 2 optional noBrackets
-    ∷ text 1 optional noBrackets
+    text 8 noBrackets
+    ∷ text 2 noBrackets
+    ∷ text 1 noBrackets
     -- 14-17 year, 18-19 month, 20-21 day
-    ∷ integer 4 required (span (negsuc 998) (pos 6070))
-    ∷ integer 2 required (span (pos 1) (pos 12))
-    ∷ integer 2 required (span (pos 1) (pos 31))
+    ∷ integer 4 required yearRange
+    ∷ integer 2 required monthRange
+    ∷ integer 2 required dayRange
     -- 22-23 hour, 24-25 minute, 26-28 second x 10
-    ∷ integer 2 required (span (pos 0) (pos 23))
-    ∷ integer 2 required (span (pos 0) (pos 59))
-    ∷ integer 3 required (span (pos 0) (pos 599))
+    ∷ integer 2 required hourRange
+    ∷ integer 2 required minuteRange
+    ∷ integer 3 required secondRange
     -- 29-35 latitude x 10000, 36-43 longitude x 10000
-    ∷ integer 7 required (span (negsuc 899999) (pos 900000))
-    ∷ integer 8 required (span (negsuc 1799999) (pos 1800000))
+    ∷ integer 7 required latitudeRange
+    ∷ integer 8 required longitudeRange
     -- 44-47 depth, km x 10, 48-49 magnitude x 10: as the column holds
-    ∷ integer 4 optional (span (negsuc 998) (pos 9999))
-    ∷ integer 2 optional (span (negsuc 8) (pos 99))
+    ∷ integer 4 optional asHeld
+    ∷ integer 2 optional asHeld
     -- 50-52 stations, 53-55 phases, 56-59 nearest station, km x 10: later numbers are not negative
-    ∷ integer 3 optional (span (pos 0) (pos 999))
-    ∷ integer 3 optional (span (pos 0) (pos 999))
-    ∷ integer 4 optional (span (pos 0) (pos 9999))
+    ∷ integer 3 optional notNegative
+    ∷ integer 3 optional notNegative
+    ∷ integer 4 optional notNegative
     -- 60-63 rms, s x 100, 64-67 horizontal error, 68-71 vertical error, km x 10
-    ∷ integer 4 optional (span (pos 0) (pos 9999))
-    ∷ integer 4 optional (span (pos 0) (pos 9999))
-    ∷ integer 4 optional (span (pos 0) (pos 9999))
+    ∷ integer 4 optional notNegative
+    ∷ integer 4 optional notNegative
+    ∷ integer 4 optional notNegative
     -- 72-73 gap, percent, 74 magnitude letter
-    ∷ integer 2 optional (span (pos 0) (pos 99))
-    ∷ text 1 optional anyText
+    ∷ integer 2 optional notNegative
+    ∷ text 1 anyText
     -- 75-76 magnitude stations, 77-78 magnitude error x 10, 79 method
-    ∷ integer 2 optional (span (pos 0) (pos 99))
-    ∷ integer 2 optional (span (pos 0) (pos 99))
-    ∷ text 1 optional anyText
+    ∷ integer 2 optional notNegative
+    ∷ integer 2 optional notNegative
+    ∷ text 1 anyText
     ∷ []
 
 -- a message: an event's 19 numbers and its 13 text bytes (identifier, source, version, magnitude letter, method); a delete's
@@ -74,13 +71,6 @@ pub data Message : Type 0 where
   link : List ℕ → List ℕ → List ℕ → List ℕ → Message
 
 -- ---- read: under 2 bytes 1; type 3; length 1; lowest barred byte 2; check 9; fields left to right
-
--- the answer, where the test finds nothing to refuse
-abbrev pub unless : {A : Type 0} → Bool → ℕ → ℕ → Answer A → Answer A
-unless t n k o = pick t (refusal n k) o
-
-abbrev pub differs : ℕ → ℕ → Bool
-differs a b = pick (eqb a b) false true
 
 abbrev pub asEvent : Answer Rec → Answer Message
 asEvent (ok r) = ok (event (r .numbers) (r .chars))

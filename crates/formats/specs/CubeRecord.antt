@@ -3,10 +3,11 @@ use Prim.Native.Nat.{ℕ, _+_}
 use mathlib.Core.List.{List, _∷_, _++_}
 use lib.ListN.{length, take, drop, getD, replicate}
 use lib.Dec.{eqb, ltb}
-use Rattle.columns.specs.Answer.{pick, Answer, ok, refusal, badForm, tooShort}
+use Rattle.columns.specs.Answer.{pick, Answer, ok, refusal, badForm, tooShort, unless}
 use Rattle.columns.specs.Table.{flagsOf, valuesOf, over}
-use Rattle.formats.specs.Cube.{Message, event, delete, link, eventKind, deleteKind, linkKind, unless, readLine, writeMessage}
-use Rattle.formats.specs.Record.{packed, slotsIn, sameBytes}
+use Rattle.formats.specs.Cube.{Message, event, delete, link, eventKind, deleteKind, linkKind, readLine, writeMessage}
+use Rattle.columns.specs.Bytes.{sameBytes}
+use Rattle.formats.specs.Record.{packed, slotsIn}
 
 -- 268 bytes, zero where the record says nothing
 abbrev pub recordSize : ℕ

@@ -1,3 +1,4 @@
+pub mod Ranges
 pub mod Check
 pub mod Cube
 pub mod Record
@@ -5,11 +6,14 @@ pub mod Link
 pub mod CubeRecord
 pub mod Lines
 pub mod Phase
-pub mod PhaseRecord
+pub mod Row
+pub mod Format
 pub mod Judge
+pub mod Words
 pub mod Header
 pub mod Block
 pub mod BlockReader
 pub mod BlockWriting
 pub mod BlockSteps
 pub mod BlockWalk
+pub mod Numbers

@@ -6,7 +6,7 @@ use mathlib.Core.Bool.{Bool, true, false, not, _&&_}
 use lib.ListN.{length, drop}
 use lib.Dec.{eqb, leb}
 use Rattle.columns.specs.Answer.{pick}
-use Rattle.formats.specs.Record.{sameBytes}
+use Rattle.columns.specs.Bytes.{sameBytes}
 
 -- the bytes before the first blank, all where there is none
 unfoldable pub word : List ℕ → List ℕ

@@ -1,30 +1,18 @@
 -- The bytes in which a record crosses to a C caller. docs/RECORDS.md
 use mathlib.Core.Path.{_≡_}
-use Prim.Native.Nat.{ℕ, zero, suc, _+_, _-_, _*_, _/_, _%_}
+use Prim.Native.Nat.{ℕ, zero, suc, _-_}
 use mathlib.Core.List.{List, [], _∷_, _++_}
-use mathlib.Core.Bool.{Bool, true, false}
 use lib.IntN.{ℤ, pos, negsuc}
 use lib.ListN.{length, take, drop, getD}
-use lib.Dec.{eqb, ltb}
+use lib.Dec.{ltb}
 use Rattle.columns.specs.Answer.{pick, Answer, ok, refusal}
+use Rattle.columns.specs.Word.{wordBytes, wordOf}
 use Rattle.columns.specs.Column.{Slot}
 use Rattle.columns.specs.Table.{slotOf, laid}
 use Rattle.columns.specs.declared.Outcome.{Outcome}
 use Rattle.formats.specs.declared.Reply.{Reply}
 use Rattle.columns.specs.declared.Outcome.the-variants as O
 use Rattle.formats.specs.declared.Reply.the-variants as R
-
--- ---- a number in bytes, high byte first
-
--- the last w bytes of n
-unfoldable pub wordBytes : ℕ → ℕ → List ℕ
-wordBytes zero n = []
-wordBytes (suc w) n = wordBytes w (n / 256) ++ (n % 256) ∷ []
-
--- n followed by the bytes of s
-unfoldable pub wordOf : ℕ → List ℕ → ℕ
-wordOf n [] = n
-wordOf n (b ∷ s) = wordOf (n * 256 + b) s
 
 -- ---- a number with a sign as 64 bits: -1 is all ones
 
@@ -55,13 +43,6 @@ unfoldable pub slotsIn : ℕ → List ℕ → List ℕ → List Slot
 slotsIn zero fs s = []
 slotsIn (suc n) fs s =
     slotOf (getD fs 0 0) (signedOf (wordOf 0 (take 8 s))) ∷ slotsIn n (drop 1 fs) (drop 8 s)
-
--- equal byte for byte
-unfoldable pub sameBytes : List ℕ → List ℕ → Bool
-sameBytes [] [] = true
-sameBytes [] (b ∷ t) = false
-sameBytes (a ∷ s) [] = false
-sameBytes (a ∷ s) (b ∷ t) = pick (eqb a b) (sameBytes s t) false
 
 -- ---- what a call answers: the number of bytes written, or a refusal
 

@@ -1,14 +1,10 @@
 // A line of a block by itself: its trailing blanks, its kind, and whether it is accepted.
-use super::phase::Phase;
-use super::phase::read_phase;
 use columns::Outcome;
 use columns::bytes::first_barred;
 ghost use mathlib.Core.Path.{_≡_};
-ghost use mathlib.Core.Bool.{Bool};
 ghost use Prim.Native.Nat.{_≤_};
 ghost use lib.ListN.{length, take};
 ghost use Rattle.columns.specs.Table.{outcomeOf};
-ghost use Rattle.formats.specs.Phase.{readPhase};
 ghost use Rattle.formats.specs.Block.{trimEnd, lastByte, beginsComment, readComment};
 
 const BLANK: u8 = 32;
@@ -55,7 +51,7 @@ pub fn begins_comment(line: &[u8]) -> bool
     false
 }
 
-// A comment's answer; `seen` says whether a phase line stands before it.
+// A comment's answer; `seen` says whether a row stands before it.
 pub fn judge_comment(line: &[u8], seen: bool) -> Outcome
     ensures { λ r. ⌜ r ≡ outcomeOf (readComment seen (now (line .entry))) ⌝ }
 {
@@ -73,16 +69,4 @@ pub fn judge_comment(line: &[u8], seen: bool) -> Outcome
         return Outcome::Done;
     }
     Outcome::Refused(super::OUT_OF_PLACE, 0)
-}
-
-// A phase line's answer, without its record.
-pub fn judge_phase(line: &[u8]) -> Outcome
-    ensures { λ r. ⌜ r ≡ outcomeOf (readPhase (now (line .entry))) ⌝ }
-{
-    let got = read_phase(line);
-    let read = got.read;
-    match read {
-        Phase::Refused(number, column) => Outcome::Refused(number, column),
-        Phase::Line => Outcome::Done,
-    }
 }

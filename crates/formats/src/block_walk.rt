@@ -1,4 +1,4 @@
-// A block walked line by line: what the line at a place is.
+// A block walked line by line, in one pass: each call is told what the call before it met.
 use super::block::is_header;
 use super::block_line::begins_comment;
 use super::block_line::trimmed;
@@ -6,10 +6,9 @@ use super::block_reader::Line;
 use super::block_reader::line_from;
 ghost use mathlib.Core.Path.{_≡_};
 ghost use Prim.Native.Nat.{_≤_};
-ghost use lib.ListN.{length, drop};
-ghost use Rattle.formats.specs.Lines.{linesOf};
 ghost use Rattle.formats.specs.Block.{kindOf};
-ghost use Rattle.formats.specs.BlockWalk.{isPhase, phasesIn, phasesBefore, nothing, known, blockLine};
+ghost use Rattle.formats.specs.BlockWalk.{nothing, known, lineAfter, firstLine, nextLine};
+ghost use Rattle.formats.specs.Format.{formatOf};
 
 pub const NO_LINE: u8 = 0;
 
@@ -21,6 +20,9 @@ pub const COMMENT_LINE: u8 = 42;
 
 pub const CLOSING_LINE: u8 = 43;
 
+// The largest number of phase lines before a line.
+const MOST: usize = 65534;
+
 // A line of a block: its kind; the number, from 1, of the phase line that it is or that it belongs to; its end; and the place
 // after it.
 pub struct BlockLine {
@@ -30,60 +32,15 @@ pub struct BlockLine {
     pub next: usize,
 }
 
-fn no_line() -> BlockLine
-    ensures { λ r. ⌜ r ≡ nothing ⌝ }
+// No line, or the number of a refusal.
+fn no_line(number: u8) -> BlockLine
+    ensures { λ r. ⌜ r ≡ nothing number ⌝ }
 {
     BlockLine {
-        kind: NO_LINE,
+        kind: number,
         phase: 0,
         end: 0,
         next: 0,
-    }
-}
-
-// 1 for a phase line, else 0.
-fn one_phase(line: &[u8]) -> usize
-    ensures { λ r. ⌜ r ≡ isPhase (kindOf (now (line .entry))) ⌝ }
-{
-    if trimmed(line) == 0 {
-        return 0;
-    }
-    if begins_comment(line) {
-        return 0;
-    }
-    1
-}
-
-// The phase lines from place `from` on.
-fn count_phases(s: &[u8], from: usize) -> usize
-    requires { ⌜ from ≤ length (now s) ⌝ }
-    ensures { λ r. ⌜ (r ≡ phasesIn (linesOf (drop from (now (s .entry))))) × (r ≤ length (now (s .entry))) ⌝ }
-{
-    let mut at = from;
-    let mut n = 0;
-    while at < s.len() {
-        let found = line_from(s, at);
-        match found {
-            Line::End => return n,
-            Line::Found(start, end, next) => {
-                n += one_phase(&s[start..end]);
-                at = next;
-            }
-        }
-    }
-    n
-}
-
-// The phase lines before a place.
-fn phases_before(block: &[u8], at: usize) -> usize
-    requires { ⌜ at ≤ length (now block) ⌝ }
-    ensures { λ r. ⌜ (r ≡ phasesBefore (now (block .entry)) at) × (r ≤ at) ⌝ }
-{
-    let s = &block[0..at];
-    let first = line_from(s, 0);
-    match first {
-        Line::End => 0,
-        Line::Found(start, end, next) => count_phases(s, next),
     }
 }
 
@@ -116,22 +73,18 @@ fn known_line(line: &[u8], before: usize, end: usize, next: usize) -> BlockLine
     }
 }
 
-// The line that starts at a place of a block.
-pub fn block_line(block: &[u8], at: usize) -> BlockLine
-    ensures { λ r. ⌜ r ≡ blockLine (now (block .entry)) at ⌝ }
+// The first line of a block of a kind, or its refusal.
+pub fn first_line(kind: u8, block: &[u8]) -> BlockLine
+    ensures { λ r. ⌜ r ≡ firstLine (formatOf kind .header) (now (block .entry)) ⌝ }
 {
     if 65536 < block.len() {
-        return no_line();
+        return no_line(super::LENGTH);
     }
-    let found = line_from(block, at);
+    let found = line_from(block, 0);
     match found {
-        Line::End => no_line(),
+        Line::End => no_line(super::OUT_OF_PLACE),
         Line::Found(start, end, next) => {
-            if at != 0 {
-                let before = phases_before(block, at);
-                return known_line(&block[start..end], before, end, next);
-            }
-            if is_header(&block[start..end]) {
+            if is_header(kind, &block[start..end]) {
                 return BlockLine {
                     kind: HEADER_LINE,
                     phase: 0,
@@ -139,7 +92,38 @@ pub fn block_line(block: &[u8], at: usize) -> BlockLine
                     next,
                 };
             }
-            no_line()
+            no_line(super::OUT_OF_PLACE)
         }
     }
+}
+
+// The line at a place, after some phase lines.
+fn line_after(block: &[u8], at: usize, phases: usize) -> BlockLine
+    ensures { λ r. ⌜ r ≡ lineAfter (now (block .entry)) at phases ⌝ }
+{
+    if MOST < phases {
+        return no_line(NO_LINE);
+    }
+    let found = line_from(block, at);
+    match found {
+        Line::End => no_line(NO_LINE),
+        Line::Found(start, end, next) => known_line(&block[start..end], phases, end, next),
+    }
+}
+
+// The line after one that was met.
+pub fn next_line(block: &[u8], before: BlockLine) -> BlockLine
+    ensures { λ r. ⌜ r ≡ nextLine (now (block .entry)) before ⌝ }
+{
+    if 65536 < block.len() {
+        return no_line(super::LENGTH);
+    }
+    let met = before.kind;
+    if met < HEADER_LINE {
+        return no_line(NO_LINE);
+    }
+    if COMMENT_LINE < met {
+        return no_line(NO_LINE);
+    }
+    line_after(block, before.next, before.phase)
 }

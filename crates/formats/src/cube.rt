@@ -1,176 +1,70 @@
 // CUBE lines: E and DE messages, read and written; a line of any kind read.
 use super::check::check_character;
 use super::link::read_link;
+use super::ranges::DAY;
+use super::ranges::HOUR;
+use super::ranges::LATITUDE;
+use super::ranges::LONGITUDE;
+use super::ranges::MINUTE;
+use super::ranges::MONTH;
+use super::ranges::RANGES;
+use super::ranges::SECOND;
+use super::ranges::YEAR;
 use columns::Outcome;
 use columns::bytes::copy;
 use columns::bytes::first_barred;
+use columns::column::ANY_TEXT;
+use columns::column::AS_HELD;
+use columns::column::INTEGER;
+use columns::column::NO_BRACKETS;
+use columns::column::NOT_NEGATIVE;
+use columns::column::REQUIRED;
+use columns::column::TEXT;
+use columns::column::WIDTH;
+use columns::cursor::Cursor;
 use columns::reader::read_columns;
 use columns::writer::put_columns;
 ghost use mathlib.Core.Path.{_≡_};
-ghost use Prim.Native.Nat.{_+_, _≤_};
-ghost use lib.ListN.{length, take, drop};
+ghost use Prim.Native.Nat.{_+_};
+ghost use lib.ListN.{length, drop};
 ghost use mathlib.Core.List.{[]};
 ghost use Rattle.columns.specs.Answer.{refusal};
 ghost use Rattle.columns.specs.Reading.{readColumns};
 ghost use Rattle.columns.specs.Table.{slotsOf, Wrote};
 ghost use Rattle.formats.specs.Cube.{eventColumns, asEvent, readEvent, readDelete, readLine, lineOf, event, delete, writeMessage};
 
-// The table of specs/Cube.antt: kind, width, a, b of each column from column 3 on.
-const EVENT_SHAPE: [u16; 96] = [
-    2,
-    8,
-    1,
-    0,
-    2,
-    2,
-    1,
-    0,
-    2,
-    1,
-    1,
-    0,
-    0,
-    4,
-    0,
-    1,
-    0,
-    2,
-    0,
-    1,
-    0,
-    2,
-    0,
-    1,
-    0,
-    2,
-    0,
-    1,
-    0,
-    2,
-    0,
-    1,
-    0,
-    3,
-    0,
-    1,
-    0,
-    7,
-    0,
-    1,
-    0,
-    8,
-    0,
-    1,
-    0,
-    4,
-    0,
-    0,
-    0,
-    2,
-    0,
-    0,
-    0,
-    3,
-    0,
-    0,
-    0,
-    3,
-    0,
-    0,
-    0,
-    4,
-    0,
-    0,
-    0,
-    4,
-    0,
-    0,
-    0,
-    4,
-    0,
-    0,
-    0,
-    4,
-    0,
-    0,
-    0,
-    2,
-    0,
-    0,
-    2,
-    1,
-    0,
-    0,
-    0,
-    2,
-    0,
-    0,
-    0,
-    2,
-    0,
-    0,
-    2,
-    1,
-    0,
-    0,
-];
-
-// The ends of each column's range.
-const EVENT_RANGES: [i64; 48] = [
-    0,
-    0,
-    0,
-    0,
-    0,
-    0,
-    -999,
-    6070,
-    1,
-    12,
-    1,
-    31,
-    0,
-    23,
-    0,
-    59,
-    0,
-    599,
-    -900000,
-    900000,
-    -1800000,
-    1800000,
-    -999,
-    9999,
-    -9,
-    99,
-    0,
-    999,
-    0,
-    999,
-    0,
-    9999,
-    0,
-    9999,
-    0,
-    9999,
-    0,
-    9999,
-    0,
-    99,
-    0,
-    0,
-    0,
-    99,
-    0,
-    99,
-    0,
-    0,
+// The table of specs/Cube.antt, from column 3 on.
+pub const EVENT_ROWS: [u32; 24] = [
+    TEXT + 8 * WIDTH + NO_BRACKETS, // 3-10 identifier
+    TEXT + 2 * WIDTH + NO_BRACKETS, // 11-12 source
+    TEXT + WIDTH + NO_BRACKETS, // 13 version
+    INTEGER + 4 * WIDTH + REQUIRED + YEAR, // 14-17 year
+    INTEGER + 2 * WIDTH + REQUIRED + MONTH, // 18-19 month
+    INTEGER + 2 * WIDTH + REQUIRED + DAY, // 20-21 day
+    INTEGER + 2 * WIDTH + REQUIRED + HOUR, // 22-23 hour
+    INTEGER + 2 * WIDTH + REQUIRED + MINUTE, // 24-25 minute
+    INTEGER + 3 * WIDTH + REQUIRED + SECOND, // 26-28 second
+    INTEGER + 7 * WIDTH + REQUIRED + LATITUDE, // 29-35 latitude
+    INTEGER + 8 * WIDTH + REQUIRED + LONGITUDE, // 36-43 longitude
+    INTEGER + 4 * WIDTH + AS_HELD, // 44-47 depth
+    INTEGER + 2 * WIDTH + AS_HELD, // 48-49 magnitude
+    INTEGER + 3 * WIDTH + NOT_NEGATIVE, // 50-52 stations
+    INTEGER + 3 * WIDTH + NOT_NEGATIVE, // 53-55 phases
+    INTEGER + 4 * WIDTH + NOT_NEGATIVE, // 56-59 nearest station
+    INTEGER + 4 * WIDTH + NOT_NEGATIVE, // 60-63 rms
+    INTEGER + 4 * WIDTH + NOT_NEGATIVE, // 64-67 horizontal error
+    INTEGER + 4 * WIDTH + NOT_NEGATIVE, // 68-71 vertical error
+    INTEGER + 2 * WIDTH + NOT_NEGATIVE, // 72-73 gap
+    TEXT + WIDTH + ANY_TEXT, // 74 magnitude letter
+    INTEGER + 2 * WIDTH + NOT_NEGATIVE, // 75-76 magnitude stations
+    INTEGER + 2 * WIDTH + NOT_NEGATIVE, // 77-78 magnitude error
+    TEXT + WIDTH + ANY_TEXT, // 79 method
 ];
 
 // An E line has no letters of a set.
-const EVENT_LETTERS: [u8; 1] = [0];
+pub const EVENT_LETTERS: [u8; 1] = [0];
 
-const EVENT_COLUMNS: usize = 24;
+pub const EVENT_COLUMNS: usize = 24;
 
 // The kinds of record, as docs/RECORDS.md numbers them.
 pub const EVENT: u8 = 1;
@@ -221,10 +115,11 @@ fn read_event_columns(line: &[u8]) -> LineRead
     let outcome = read_columns(
         line,
         2,
-        &EVENT_SHAPE,
-        &EVENT_RANGES,
-        &EVENT_LETTERS,
+        &EVENT_ROWS,
+        0,
         EVENT_COLUMNS,
+        &RANGES,
+        &EVENT_LETTERS,
         &mut flags,
         &mut values,
         &mut text,
@@ -275,7 +170,9 @@ fn read_delete(line: &[u8]) -> LineRead
     let flags = [0u8; 19];
     let values = [0i64; 19];
     let mut text = [0u8; 250];
-    copy(&mut text, &line[2..len]);
+    let cursor = Cursor { at: 2 };
+    let names = cursor.stretch(line, 11, &mut text, 0);
+    names.stretch(line, len - 13, &mut text, 11);
     LineRead {
         read: Read::There(DELETE, 0, 0, len - 13),
         flags,
@@ -328,10 +225,11 @@ pub fn write_event(flags: &[u8; 19], values: &[i64; 19], text: &[u8; 13], out: &
         flags,
         values,
         text,
-        &EVENT_SHAPE,
-        &EVENT_RANGES,
-        &EVENT_LETTERS,
+        &EVENT_ROWS,
+        0,
         EVENT_COLUMNS,
+        &RANGES,
+        &EVENT_LETTERS,
         &mut line,
         2,
     );

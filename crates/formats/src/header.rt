@@ -1,13 +1,19 @@
-// The header of the phase block.
-ghost use mathlib.Core.Path.{_≡_};
-ghost use Rattle.formats.specs.Header.{phaseHeader};
-
-const HEADER: [u8; 199] =
-    *b"Sta     Dist  EvAz Phase        Time      TRes  Azim AzRes   Slow   SRes Def   SNR       Amp   Per Qual Magnitude    ArrID    Agy   Deploy   Ln Auth  Rep   PCh ACh L   Lat       Lon     Elev    Depth";
+// The headers of the row formats' blocks.
+use columns::bytes::copy;
+ghost use Rattle.formats.specs.Format.{HeaderPut};
 
 // The words of specs/Header.antt in their columns.
-pub fn header() -> [u8; 199]
-    ensures { λ r. ⌜ r ≡ phaseHeader ⌝ }
+const PHASE_HEADER: [u8; 199] =
+    *b"Sta     Dist  EvAz Phase        Time      TRes  Azim AzRes   Slow   SRes Def   SNR       Amp   Per Qual Magnitude    ArrID    Agy   Deploy   Ln Auth  Rep   PCh ACh L   Lat       Lon     Elev    Depth";
+
+// The header of the blocks of a kind, over the first bytes of `out`; answers its length.
+pub fn put_header(kind: u8, out: &mut [u8; 256]) -> usize
+    ensures { λ n. ⌜ HeaderPut kind n (now (out .entry)) (now (out .exit)) ⌝ }
 {
-    HEADER
+    match kind {
+        _ => {
+            copy(out, &PHASE_HEADER);
+            PHASE_HEADER.len()
+        }
+    }
 }

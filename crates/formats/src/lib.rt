@@ -1,4 +1,4 @@
-// Formats: CUBE messages, the ISF phase line, and the bytes of their records.
+// Formats: CUBE messages, rows and blocks of file formats (the ISF phase line), and the bytes of their records.
 pub mod block;
 pub mod block_line;
 pub mod block_reader;
@@ -7,13 +7,15 @@ pub mod block_writer;
 pub mod check;
 pub mod cube;
 pub mod cube_record;
+pub mod format;
 pub mod header;
 pub mod judge;
 pub mod lines;
 pub mod link;
-pub mod phase;
-pub mod phase_record;
+pub mod ranges;
 pub mod record;
+pub mod row;
+pub mod table;
 
 // The numbers answered for a line, beside those of its columns (document 01, "Numbers answered").
 pub const LENGTH: u8 = 1;

@@ -1,49 +1,18 @@
 // A record's bytes: its kind, a flag for each number, eight bytes for each number, high byte first, and its text.
-use columns::bytes::copy;
+use columns::bytes::copy_at;
+use columns::word::read_word;
+use columns::word::write_word;
 use columns::written::magnitude_of;
 ghost use mathlib.Core.Path.{_≡_};
 ghost use Prim.Native.Nat.{_+_, _*_, _≤_};
 ghost use lib.ListN.{length};
 ghost use lib.IntN.{pos};
 ghost use Rattle.columns.specs.Table.{flagOf, valueOf, slotOf, flagsOf, valuesOf, over, placed};
-ghost use Rattle.formats.specs.Record.{wordBytes, wordOf, patternOf, signedOf, valueBytes, packed, slotsIn, sameBytes};
+ghost use Rattle.formats.specs.Record.{patternOf, signedOf, valueBytes, packed, slotsIn};
 
 const ALL_ONES: u64 = 18446744073709551615;
 
 const TOP_BIT: u64 = 9223372036854775808;
-
-// The last bytes of n, as many as `out` has places.
-pub fn write_word(out: &mut [u8], n: u64)
-    ensures { λ _. ⌜ now (out .exit) ≡ wordBytes (length (now (out .entry))) n ⌝ }
-{
-    let mut i = out.len();
-    let mut m = n;
-    while 0 < i {
-        i -= 1;
-        out[i] = (m % 256) as u8;
-        m = m / 256;
-    }
-}
-
-fn wide(x: u8) -> u64
-    ensures { λ r. ⌜ r ≡ x ⌝ }
-{
-    x as u64
-}
-
-// The number whose bytes are those of s.
-pub fn read_word(s: &[u8]) -> u64
-    requires { ⌜ length (now s) ≤ 8 ⌝ }
-    ensures { λ r. ⌜ r ≡ wordOf 0 (now (s .entry)) ⌝ }
-{
-    let mut n: u64 = 0;
-    let mut i = 0;
-    while i < s.len() {
-        n = n * 256 + wide(s[i]);
-        i += 1;
-    }
-    n
-}
 
 // A number with a sign as 64 bits.
 pub fn pattern_of(v: i64) -> u64
@@ -76,15 +45,6 @@ pub fn put_values(out: &mut [u8], values: &[i64])
         write_word(&mut out[at..at + 8], pattern_of(values[i]));
         i += 1;
     }
-}
-
-// The bytes of `from`, from place `at` on.
-pub fn copy_at(out: &mut [u8], at: usize, from: &[u8])
-    requires { ⌜ at + length (now from) ≤ length (now out) ⌝ }
-    ensures { λ _. ⌜ now (out .exit) ≡ placed at (now (from .entry)) (now (out .entry)) ⌝ }
-{
-    let end = at + from.len();
-    copy(&mut out[at..end], from);
 }
 
 // The bytes of all values, from place `at` on.
@@ -140,21 +100,4 @@ pub fn get_numbers(from: &[u8], bytes: &[u8], flags: &mut [u8], values: &mut [i6
         values[i] = value_of(f, signed_of(read_word(&bytes[at..at + 8])));
         i += 1;
     }
-}
-
-// Whether two stretches of bytes are equal.
-pub fn same(a: &[u8], b: &[u8]) -> bool
-    ensures { λ r. ⌜ r ≡ sameBytes (now (a .entry)) (now (b .entry)) ⌝ }
-{
-    if a.len() != b.len() {
-        return false;
-    }
-    let mut i = 0;
-    while i < a.len() {
-        if a[i] != b[i] {
-            return false;
-        }
-        i += 1;
-    }
-    true
 }

@@ -1,15 +1,18 @@
 -- The one number that a call returns: answer, column and length in fixed parts. include/rotmibel.h
 use mathlib.Core.Path.{_≡_}
 use mathlib.Core.List.{List}
-use Prim.Native.Nat.{ℕ, _+_, _*_, _%_, _<_}
+use Prim.Native.Nat.{ℕ, _+_, _*_, _/_, _%_, _<_}
 use lib.ListN.{length}
-use Rattle.columns.specs.Answer.{Answer, ok, refusal}
+use lib.Dec.{eqb}
+use Rattle.columns.specs.Answer.{pick, Answer, ok, refusal}
 use Rattle.columns.specs.Table.{laid}
 use Rattle.catalogue.specs.declared.Looked.{Looked}
 use Rattle.formats.specs.BlockWriting.{laidFrom}
+use Rattle.formats.specs.BlockWalk.{firstLine, nextLine}
+use Rattle.formats.specs.Numbers.{replyNumber, replyColumn, replyLength, blockNumber, blockColumn, blockLine}
+use Rattle.formats.specs.declared.block.Block.the-variants as B
 use Rattle.formats.specs.declared.Reply.{Reply}
 use Rattle.formats.specs.declared.block.Block.{Block}
-use Rattle.formats.specs.declared.block.Block.the-variants as B
 use Rattle.formats.specs.declared.block_walk.BlockLine.{BlockLine}
 use Rattle.formats.specs.declared.Reply.the-variants as R
 
@@ -24,8 +27,7 @@ numberOf (refusal n k) = parts n k 0
 
 -- the same, of a reply as the code has it
 abbrev pub numberIn : Reply → ℕ
-numberIn (R.Done len) = parts 0 0 len
-numberIn (R.Refused n k) = parts n k 0
+numberIn r = parts (replyNumber r) (replyColumn r) (replyLength r)
 
 -- a reply whose length and column fit their parts
 abbrev pub small : Reply → Type 0
@@ -45,13 +47,28 @@ lookedNumber x = parts (x .number) 0 (x .place)
 
 -- on 0 the phase count stands where a column does; the comment count (16 bits) and the bytes used where a length does
 -- a refusal has its column, and its line where a length stands
-abbrev pub blockNumber : Block → ℕ
-blockNumber (B.Read phases comments used) = parts 0 phases (comments + 65536 * used)
-blockNumber (B.Refused number column line) = parts number column line
+abbrev pub blockAnswer : Block → ℕ
+blockAnswer (B.Read phases comments used) = parts (blockNumber (B.Read phases comments used)) phases (comments + 65536 * used)
+blockAnswer (B.Refused number column line) =
+    parts (blockNumber (B.Refused number column line)) (blockColumn (B.Refused number column line)) (blockLine (B.Refused number column line))
 
 -- a line's kind; the number of its phase line where a column stands; its end (20 bits) and the place after it where a length does
 abbrev pub lineNumber : BlockLine → ℕ
 lineNumber x = parts (x .kind) (x .phase) (x .end + 1048576 * x .next)
+
+-- the line that such a number tells of
+abbrev pub lineIn : ℕ → BlockLine
+lineIn n =
+    record {
+      kind = n % 256;
+      phase = n / 256 % 65536;
+      end = n / 16777216 % 1048576;
+      next = n / 17592186044416;
+    }
+
+-- the first line where the number handed in is 0, else the line after the one that it tells of
+abbrev pub metLine : List ℕ → List ℕ → ℕ → BlockLine
+metLine header b before = pick (eqb before 0) (firstLine header b) (nextLine b (lineIn before))
 
 -- the place after what was written, modulo 2^40, where a length stands
 abbrev pub placeNumber : ℕ → Answer (List ℕ) → ℕ
@@ -60,8 +77,7 @@ placeNumber at (refusal n k) = parts n k 0
 
 -- the same, of a reply as the code has it
 abbrev pub placeIn : Reply → ℕ
-placeIn (R.Done place) = parts 0 0 (place % 1099511627776)
-placeIn (R.Refused n k) = parts n k 0
+placeIn r = parts (replyNumber r) (replyColumn r) (replyLength r % 1099511627776)
 
 -- a reply whose column fits its part
 abbrev pub lowColumn : Reply → Type 0

@@ -5,24 +5,27 @@ use catalogue::order::take_line;
 use formats::Reply;
 use formats::block::Block;
 use formats::block::read_block;
-use formats::block_walk::block_line;
+use formats::block_walk::BlockLine;
+use formats::block_walk::first_line;
+use formats::block_walk::next_line;
 use formats::block_writer::write_header;
 use formats::block_writer::write_record;
 use formats::cube_record::read_into;
 use formats::cube_record::write_from;
-use formats::phase_record::read_phase_into;
-use formats::phase_record::write_phase_from;
+use formats::format::PHASE;
+use formats::row::read_row_into;
+use formats::row::write_row_from;
 ghost use mathlib.Core.Path.{_≡_};
 ghost use Prim.Native.Nat.{_<_};
 ghost use lib.ListN.{length};
 ghost use Rattle.formats.specs.CubeRecord.{readInto, writeFrom};
-ghost use Rattle.formats.specs.PhaseRecord.{readPhaseInto, writePhaseFrom};
+ghost use Rattle.formats.specs.Row.{readRowInto, writeRowFrom};
+ghost use Rattle.formats.specs.Format.{formatOf};
 ghost use Rattle.formats.specs.Block.{readBlock};
-ghost use Rattle.formats.specs.BlockWalk.{blockLine};
 ghost use Rattle.formats.specs.BlockWriting.{headerCall, recordCall};
 ghost use Rattle.catalogue.specs.Room.{callOf, roomAfter, orderOf};
 ghost use Rattle.catalogue.specs.LookUp.{lookUp};
-ghost use Rattle.rotmibel.specs.Answers.{parts, numberIn, small, lookedNumber, blockNumber, lineNumber, placeIn, lowColumn, Answered, AnsweredFrom};
+ghost use Rattle.rotmibel.specs.Answers.{parts, numberIn, small, lookedNumber, blockAnswer, lineNumber, lineIn, metLine, placeIn, lowColumn, Answered, AnsweredFrom};
 
 // Answer, column and length in one number.
 fn parts_of(answer: u8, column: usize, len: usize) -> u64
@@ -96,55 +99,123 @@ pub extern "C" fn rotmibel_in_order(room: &[u8]) -> u64
     parts_of(check_order(room), 0, 0)
 }
 
+// ---- row formats, by the number of their record's kind
+
+// A line read into a record.
+fn read_row_number(kind: u8, line: &[u8], out: &mut [u8]) -> u64
+    ensures { λ r. ⌜ Answered (readRowInto (formatOf kind) (now (line .entry)) (length (now (out .entry)))) r (now (out .entry)) (now (out .exit)) ⌝ }
+{
+    number_of(read_row_into(kind, line, out))
+}
+
+// A line written from a record.
+fn write_row_number(kind: u8, from: &[u8], out: &mut [u8]) -> u64
+    ensures { λ r. ⌜ Answered (writeRowFrom (formatOf kind) (now (from .entry)) (length (now (out .entry)))) r (now (out .entry)) (now (out .exit)) ⌝ }
+{
+    number_of(write_row_from(kind, from, out))
+}
+
+// A block read.
+fn block_number(kind: u8, block: &[u8]) -> u64
+    ensures { λ r. ⌜ r ≡ blockAnswer (readBlock (formatOf kind) (now (block .entry))) ⌝ }
+{
+    let outcome = read_block(kind, block);
+    match outcome {
+        Block::Read(rows, comments, used) => parts_of(0, rows, comments + 65536 * used),
+        Block::Refused(number, column, line) => parts_of(number, column, line),
+    }
+}
+
+// The line that a number of rotmibel_block_line tells of.
+fn line_of(number: u64) -> BlockLine
+    ensures { λ x. ⌜ x ≡ lineIn number ⌝ }
+{
+    BlockLine {
+        kind: (number % 256) as u8,
+        phase: (number / 256 % 65536) as usize,
+        end: (number / 16777216 % 1048576) as usize,
+        next: (number / 17592186044416) as usize,
+    }
+}
+
+// The first line of a block, or the line after the one that a number tells of.
+fn met_line(kind: u8, block: &[u8], before: u64) -> BlockLine
+    ensures { λ r. ⌜ r ≡ metLine (formatOf kind .header) (now (block .entry)) before ⌝ }
+{
+    if before == 0 {
+        return first_line(kind, block);
+    }
+    next_line(block, line_of(before))
+}
+
+// The next line of a block, after the one that the call before answered.
+fn met_number(kind: u8, block: &[u8], before: u64) -> u64
+    ensures { λ r. ⌜ r ≡ lineNumber (metLine (formatOf kind .header) (now (block .entry)) before) ⌝ }
+{
+    let line = met_line(kind, block, before);
+    parts_of(line.kind, line.phase, line.end + 1048576 * line.next)
+}
+
+// A block's header written from a place on.
+fn header_number(kind: u8, out: &mut [u8], at: usize) -> u64
+    ensures { λ r. ⌜ AnsweredFrom at (headerCall (formatOf kind .header) at (length (now (out .entry)))) r (now (out .entry)) (now (out .exit)) ⌝ }
+{
+    place_of(write_header(kind, out, at))
+}
+
+// A record written as a line of a block, from a place on.
+fn record_number(kind: u8, from: &[u8], out: &mut [u8], at: usize) -> u64
+    ensures { λ r. ⌜ AnsweredFrom at (recordCall (formatOf kind) (now (from .entry)) at (length (now (out .entry)))) r (now (out .entry)) (now (out .exit)) ⌝ }
+{
+    place_of(write_record(kind, from, out, at))
+}
+
+// ---- the phase line and its block
+
 // A phase line read into a record.
 #[no_mangle]
 pub extern "C" fn rotmibel_read_phase(line: &[u8], out: &mut [u8]) -> u64
-    ensures { λ r. ⌜ Answered (readPhaseInto (now (line .entry)) (length (now (out .entry)))) r (now (out .entry)) (now (out .exit)) ⌝ }
+    ensures { λ r. ⌜ Answered (readRowInto (formatOf 3) (now (line .entry)) (length (now (out .entry)))) r (now (out .entry)) (now (out .exit)) ⌝ }
 {
-    number_of(read_phase_into(line, out))
+    read_row_number(PHASE, line, out)
 }
 
 // A phase line written from a record.
 #[no_mangle]
 pub extern "C" fn rotmibel_write_phase(from: &[u8], out: &mut [u8]) -> u64
-    ensures { λ r. ⌜ Answered (writePhaseFrom (now (from .entry)) (length (now (out .entry)))) r (now (out .entry)) (now (out .exit)) ⌝ }
+    ensures { λ r. ⌜ Answered (writeRowFrom (formatOf 3) (now (from .entry)) (length (now (out .entry)))) r (now (out .entry)) (now (out .exit)) ⌝ }
 {
-    number_of(write_phase_from(from, out))
+    write_row_number(PHASE, from, out)
 }
 
 // A phase block read.
 #[no_mangle]
 pub extern "C" fn rotmibel_read_block(block: &[u8]) -> u64
-    ensures { λ r. ⌜ r ≡ blockNumber (readBlock (now (block .entry))) ⌝ }
+    ensures { λ r. ⌜ r ≡ blockAnswer (readBlock (formatOf 3) (now (block .entry))) ⌝ }
 {
-    let outcome = read_block(block);
-    match outcome {
-        Block::Read(phases, comments, used) => parts_of(0, phases, comments + 65536 * used),
-        Block::Refused(number, column, line) => parts_of(number, column, line),
-    }
+    block_number(PHASE, block)
 }
 
-// What the line at a place of a block is.
+// The next line of a phase block, after the one that the call before answered.
 #[no_mangle]
-pub extern "C" fn rotmibel_block_line(block: &[u8], at: usize) -> u64
-    ensures { λ r. ⌜ r ≡ lineNumber (blockLine (now (block .entry)) at) ⌝ }
+pub extern "C" fn rotmibel_block_line(block: &[u8], before: u64) -> u64
+    ensures { λ r. ⌜ r ≡ lineNumber (metLine (formatOf 3 .header) (now (block .entry)) before) ⌝ }
 {
-    let line = block_line(block, at);
-    parts_of(line.kind, line.phase, line.end + 1048576 * line.next)
+    met_number(PHASE, block, before)
 }
 
-// The header of a block written from a place on.
+// The header of a phase block written from a place on.
 #[no_mangle]
 pub extern "C" fn rotmibel_write_header(out: &mut [u8], at: usize) -> u64
-    ensures { λ r. ⌜ AnsweredFrom at (headerCall at (length (now (out .entry)))) r (now (out .entry)) (now (out .exit)) ⌝ }
+    ensures { λ r. ⌜ AnsweredFrom at (headerCall (formatOf 3 .header) at (length (now (out .entry)))) r (now (out .entry)) (now (out .exit)) ⌝ }
 {
-    place_of(write_header(out, at))
+    header_number(PHASE, out, at)
 }
 
 // A phase record written as a line of a block, from a place on.
 #[no_mangle]
 pub extern "C" fn rotmibel_write_record(from: &[u8], out: &mut [u8], at: usize) -> u64
-    ensures { λ r. ⌜ AnsweredFrom at (recordCall (now (from .entry)) at (length (now (out .entry)))) r (now (out .entry)) (now (out .exit)) ⌝ }
+    ensures { λ r. ⌜ AnsweredFrom at (recordCall (formatOf 3) (now (from .entry)) at (length (now (out .entry)))) r (now (out .entry)) (now (out .exit)) ⌝ }
 {
-    place_of(write_record(from, out, at))
+    record_number(PHASE, from, out, at)
 }

@@ -18,7 +18,7 @@ pub sample-back : (ns : List Slot) (t ys : List ℕ) → length ns ≡ 6 → len
 unfolding good allSlots allTexts
 sample-back ns t ys a b e = columns-back sample [] 0 ns t ys tt a b e
 
--- brackets are barred in columns 1 to 5
-pub sample-accepted : (line : List ℕ) (r : Rec) → length line ≡ 36 → barred 1 5 1 line ≡ 0 → readColumns sample [] 0 line ≡ ok r → Writes sample [] 0 r
+-- brackets are barred in columns 19 to 21
+pub sample-accepted : (line : List ℕ) (r : Rec) → length line ≡ 36 → barred 19 21 1 line ≡ 0 → readColumns sample [] 0 line ≡ ok r → Writes sample [] 0 r
 unfolding good widths bracketsIn
-sample-accepted line r l p e = columns-accepted sample [] 0 line r tt (le-of-eq (sym l)) (line-clean 1 5 sample 0 line tt l p) e
+sample-accepted line r l p e = columns-accepted sample [] 0 line r tt (le-of-eq (sym l)) (line-clean 19 21 sample 0 line tt l p) e

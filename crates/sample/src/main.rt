@@ -1,5 +1,18 @@
 // Reads and writes lines of a made-up format, and prints the outcomes: what a new table takes.
 use columns::Outcome;
+use columns::column::BLANK;
+use columns::column::CLOCK;
+use columns::column::DECIMAL;
+use columns::column::GROUP;
+use columns::column::INTEGER;
+use columns::column::LETTER;
+use columns::column::NO_BRACKETS;
+use columns::column::NOT_BLANK_FIRST;
+use columns::column::NOT_NEGATIVE;
+use columns::column::PLACES;
+use columns::column::REQUIRED;
+use columns::column::TEXT;
+use columns::column::WIDTH;
 use libc::STDOUT_FILENO;
 ghost use mathlib.Core.Path.{_≡_};
 ghost use mathlib.Core.List.{[]};
@@ -10,79 +23,39 @@ ghost use Rattle.columns.specs.Writing.{writeLine};
 ghost use Rattle.columns.specs.Table.{slotsOf, ReadPart, Wrote};
 ghost use Rattle.sample.specs.Format.{sample};
 
-// The table of specs/Format.antt: kind, width, a, b of each column.
-const SHAPE: [u16; 40] = [
-    2,
-    5,
-    1,
-    1,
-    5,
-    1,
-    0,
-    0,
-    0,
-    4,
-    0,
-    1,
-    5,
-    1,
-    0,
-    0,
-    1,
-    5,
-    1,
-    0,
-    3,
-    1,
-    0,
-    3,
-    3,
-    1,
-    3,
-    3,
-    2,
-    3,
-    0,
-    0,
-    4,
-    12,
-    0,
-    0,
-    0,
-    3,
-    0,
-    0,
+// The table of specs/Format.antt.
+const ROWS: [u32; 10] = [
+    TEXT + 5 * WIDTH + NOT_BLANK_FIRST, // 1-5 station
+    BLANK + WIDTH, // 6
+    INTEGER + 4 * WIDTH + REQUIRED + YEAR, // 7-10 year
+    BLANK + WIDTH, // 11
+    DECIMAL + 5 * WIDTH + PLACES + AZIMUTH, // 12-16 azimuth
+    LETTER + 3, // 17 T _ or blank
+    LETTER + 3 * PLACES + 3, // 18 < > or blank
+    TEXT + 3 * WIDTH + NO_BRACKETS, // 19-21 note
+    GROUP + CLOCK, // 22-33 time
+    INTEGER + 3 * WIDTH + NOT_NEGATIVE, // 34-36 count
 ];
 
-// The ends of each column's range.
-const RANGES: [i64; 20] = [
-    0,
-    0,
-    0,
-    0,
-    -999,
+// Where a range stands in the table of ranges; 0 and 1 are no spans.
+const YEAR: u32 = 2;
+
+const AZIMUTH: u32 = 4;
+
+const RANGES: [i64; 6] = [
+    0, // as held
+    0, // not negative
+    -999, // year
     6070,
-    0,
-    0,
-    0,
+    0, // azimuth x 10
     3600,
-    0,
-    0,
-    0,
-    0,
-    0,
-    0,
-    0,
-    0,
-    0,
-    999,
 ];
 
-const LETTERS: [u8; 6] = [84, 95, 32, 60, 62, 32];
+const LETTERS: [u8; 6] = *b"T_ <> ";
 
 const COLUMNS: usize = 10;
 
-const WIDTH: usize = 36;
+const BYTES: usize = 36;
 
 // A record: six numbers, each with its flag, and ten bytes of text.
 struct Sample {
@@ -102,10 +75,11 @@ fn read_sample(line: &[u8]) -> Sample
     let outcome = columns::reader::read_columns(
         line,
         0,
-        &SHAPE,
+        &ROWS,
+        0,
+        COLUMNS,
         &RANGES,
         &LETTERS,
-        COLUMNS,
         &mut flags,
         &mut values,
         &mut text,
@@ -125,11 +99,12 @@ fn write_sample(flags: &[u8; 6], values: &[i64; 6], text: &[u8; 10], out: &mut [
         flags,
         values,
         text,
-        &SHAPE,
+        &ROWS,
+        0,
+        COLUMNS,
         &RANGES,
         &LETTERS,
-        COLUMNS,
-        WIDTH,
+        BYTES,
         out,
     )
 }

@@ -1,25 +1,27 @@
 -- Every record that is read by a list of columns is accepted by the writer: by column, then over the list.
 use mathlib.Core.Path.{_≡_, refl, _∙_}
-use mathlib.Core.Bool.{Bool, true, false, _&&_}
+use mathlib.Core.Bool.{Bool, true, false}
 use mathlib.Core.List.{List, [], _∷_, _++_}
-use Prim.Native.Nat.{ℕ, _+_, _≤_}
+use Prim.Native.Nat.{ℕ, _+_, _-_, _≤_}
 use native.Mathlib.Omega.{arith}
 use lib.ListN.{length, take, drop, getD, replicate, length-append, length-drop}
-use lib.Dec.{leb, eqb, T, leb→le}
+use lib.Dec.{T}
 use lib.IntN.{ℤ}
 use lib.Seq.{take-at, drop-at, length-take-le}
 use Rattle.columns.specs.declared.number.Field.{Field}
+use Rattle.columns.specs.declared.number.Form.{Form}
+use Rattle.columns.specs.declared.group.Group.{Group}
 use Rattle.columns.specs.Answer.{Answer, ok, notBlank, requiredBlank, outOfRange, wrongLetter}
-use Rattle.columns.specs.Bytes.{allBlank, member}
-use Rattle.columns.specs.Number.{intField, decField, holdsInt, holdsDec, intBytes, decBytes}
-use Rattle.columns.specs.Column.{Slot, missing, given, Rec, joined, Range, allowed, Col, integer, decimal, text, letter, clock, separator, width, slots, texts, goodCol, good, widths, allSlots, allTexts, barsOf}
+use Rattle.columns.specs.Bytes.{isNone, trim, member}
+use Rattle.columns.specs.Number.{formWidth, goodForm, fieldOf, holds, fieldBytes}
+use Rattle.columns.specs.Column.{Slot, missing, given, Rec, joined, Range, allowed, Rule, ruleBars, Col, numeric, text, letter, group, blank, width, slots, texts, groupWidth, goodGroup, goodCol, good, widths, allSlots, allTexts, barsOf}
 use Rattle.columns.specs.Reading.{nothing, oneNumber, someText, judge, readCell, readColumns}
 use Rattle.columns.specs.Writing.{putNumber, putText, writeCell, writeColumns}
 use Rattle.columns.proofs.laws.Clear.{Clear, clear-barred}
-use Rattle.columns.proofs.laws.Columns.{Clean, column}
+use Rattle.columns.proofs.laws.Columns.{Clean, column, text-read}
 use Rattle.columns.proofs.laws.Answers.{passed, held, chained}
-use Rattle.columns.proofs.laws.NumberFits.{int-holds, dec-holds}
-use Rattle.columns.proofs.laws.ClockBack.{clock-timed}
+use Rattle.columns.proofs.laws.Form.{form-holds}
+use Rattle.columns.proofs.laws.GroupBack.{group-took}
 use Rattle.columns.proofs.laws.Tests.{T-and}
 use Rattle.columns.specs.declared.number.Field.the-variants as F
 
@@ -33,44 +35,37 @@ pub record Accepted (c : Col) (seen : List Slot) (at : ℕ) (r : Rec) : Type 0 w
   pub written : writeCell c seen at (r .numbers) (r .chars) ≡ ok bytes
 
 -- a number that was read
-record Took (w : ℕ) (q : Bool) (fits : ℤ → Bool) (at : ℕ) (holds : ℤ → Bool) (bytes : ℤ → List ℕ) (r : Rec) : Type 0 where
+record Took (m : Form) (q : Bool) (fits : ℤ → Bool) (at : ℕ) (r : Rec) : Type 0 where
   slot : Slot
   is : oneNumber slot ≡ r
   line : List ℕ
-  put : putNumber w q fits at holds bytes slot ≡ ok line
+  put : putNumber m q fits at slot ≡ ok line
 
-module _ (w : ℕ) (q : Bool) (fits : ℤ → Bool) (at : ℕ) (holds : ℤ → Bool) (bytes : ℤ → List ℕ) (r : Rec) where
-  took : (x : Field) → ((v : ℤ) → x ≡ F.Value v → holds v ≡ true) → judge q fits at x ≡ ok r → Took w q fits at holds bytes r
+module _ (m : Form) (q : Bool) (fits : ℤ → Bool) (at : ℕ) (r : Rec) where
+  took : (x : Field) → ((v : ℤ) → x ≡ F.Value v → holds m v ≡ true) → judge q fits at x ≡ ok r → Took m q fits at r
   took F.Missing f e =
       let a = passed q requiredBlank (at + 1) (ok (oneNumber missing)) r e in
-      record { slot = missing; is = cc (a .1); line = replicate w 32; put = rw (a .0) }
+      record { slot = missing; is = cc (a .1); line = replicate (formWidth m) 32; put = rw (a .0) }
   took F.Bad f e = let z : _≡_ {A = ℕ} 0 1 = cc in let y : ⊥ = omega arith in absurd y
   took (F.Value v) f e =
       let a = held (fits v) outOfRange (at + 1) (ok (oneNumber (given v))) r e in
-      record { slot = given v; is = cc (a .1); line = bytes v; put = rw (f v refl, a .0) }
+      record { slot = given v; is = cc (a .1); line = fieldBytes m v; put = rw (f v refl, a .0) }
 
 clear-put : (bars : Bool) (at : ℕ) (s : List ℕ) (o : Answer (List ℕ)) → Clear bars s → putText bars at s o ≡ o
 clear-put bars at s o p = rw (clear-barred bars at s p)
 
 module _ (seen : List Slot) (at : ℕ) (f : List ℕ) (r : Rec) where
-  int-accepted : (w : ℕ) (q : Bool) (g : Range) → length f ≡ w → readCell (integer w q g) seen at f ≡ ok r → Accepted (integer w q g) seen at r
+  number-accepted : (m : Form) (q : Bool) (g : Range) → T (goodForm m) → length f ≡ formWidth m → readCell (numeric m q g) seen at f ≡ ok r → Accepted (numeric m q g) seen at r
   unfolding readCell writeCell
-  int-accepted w q g l e =
-      let a = took w q (allowed g seen) at (holdsInt w) (intBytes w) r (intField f) (λ v x. rw l at (int-holds f v x)) e in
+  number-accepted m q g o l e =
+      let a = took m q (allowed g seen) at r (fieldOf m f) (λ v x. form-holds m f v o l x) e in
       rw (← a .is) (record { bytes = a .line; numbers = refl; chars = refl; written = a .put })
 
-  dec-accepted : (w d : ℕ) (q : Bool) (g : Range) → d + 3 ≤ w → length f ≡ w → readCell (decimal w d q g) seen at f ≡ ok r → Accepted (decimal w d q g) seen at r
+  text-accepted : (w : ℕ) (x : Rule) → Clear (ruleBars x) f → length f ≡ w → readCell (text w x) seen at f ≡ ok r → Accepted (text w x) seen at r
   unfolding readCell writeCell
-  dec-accepted w d q g h l e =
-      let a = took w q (allowed g seen) at (holdsDec w) (decBytes w d) r (decField d f) (λ v x. rw l at (dec-holds d f v (omega arith) x)) e in
-      rw (← a .is) (record { bytes = a .line; numbers = refl; chars = refl; written = a .put })
-
-  text-accepted : (w : ℕ) (q x : Bool) → Clear x f → length f ≡ w → readCell (text w q x) seen at f ≡ ok r → Accepted (text w q x) seen at r
-  unfolding readCell writeCell
-  text-accepted w q x p l e =
-      let a = passed (q && eqb (getD f 0 0) 32) requiredBlank (at + 1) (ok (someText f)) r e in
-      let d : someText f ≡ r = cc (a .1) in
-      rw (← d) (record { bytes = f; numbers = refl; chars = l; written = rw (a .0) (clear-put x at f (ok f) p) })
+  text-accepted w x p l e =
+      let a = text-read x at f r e in
+      rw (← a .0) (record { bytes = f; numbers = refl; chars = l; written = rw (clear-put (ruleBars x) at f (ok f) p) (a .1) })
 
   letter-accepted : (s : List ℕ) → Clear false f → length f ≡ 1 → readCell (letter s) seen at f ≡ ok r → Accepted (letter s) seen at r
   unfolding readCell writeCell
@@ -79,26 +74,25 @@ module _ (seen : List Slot) (at : ℕ) (f : List ℕ) (r : Rec) where
       let d : someText f ≡ r = cc (a .1) in
       rw (← d) (record { bytes = f; numbers = refl; chars = l; written = rw (a .0) (clear-put false at f (ok f) p) })
 
-  clock-accepted : length f ≡ 12 → readCell clock seen at f ≡ ok r → Accepted clock seen at r
+  group-accepted : (g : Group) → T (goodGroup g) → length f ≡ groupWidth g → readCell (group g) seen at f ≡ ok r → Accepted (group g) seen at r
   unfolding readCell writeCell
-  clock-accepted l e =
-      let c = clock-timed at f r l e in
+  group-accepted g o l e =
+      let c = group-took g seen at r f o l e in
       rw (← c .is) (record { bytes = c .line; numbers = refl; chars = refl; written = c .put })
 
-  separator-accepted : readCell separator seen at f ≡ ok r → Accepted separator seen at r
+  blank-accepted : (w : ℕ) → readCell (blank w) seen at f ≡ ok r → Accepted (blank w) seen at r
   unfolding readCell writeCell
-  separator-accepted e =
-      let a = held (allBlank f) notBlank (at + 1) (ok nothing) r e in
+  blank-accepted w e =
+      let a = held (isNone (trim f)) notBlank (at + 1 + (length f - length (trim f))) (ok nothing) r e in
       let d : nothing ≡ r = cc (a .1) in
-      rw (← d) (record { bytes = 32 ∷ []; numbers = refl; chars = refl; written = refl })
+      rw (← d) (record { bytes = replicate w 32; numbers = refl; chars = refl; written = refl })
 
 pub cell-accepted : (c : Col) (seen : List Slot) (at : ℕ) (f : List ℕ) (r : Rec) → Clear (barsOf c) f → T (goodCol c) → length f ≡ width c → readCell c seen at f ≡ ok r → Accepted c seen at r
-cell-accepted (integer w q g) seen at f r p o l e = int-accepted seen at f r w q g l e
-cell-accepted (decimal w d q g) seen at f r p o l e = dec-accepted seen at f r w d q g (leb→le (d + 3) w (T-and (leb (d + 3) w) (leb w 18) o .0)) l e
-cell-accepted (text w q x) seen at f r p o l e = text-accepted seen at f r w q x p l e
+cell-accepted (numeric m q g) seen at f r p o l e = number-accepted seen at f r m q g o l e
+cell-accepted (text w x) seen at f r p o l e = text-accepted seen at f r w x p l e
 cell-accepted (letter s) seen at f r p o l e = letter-accepted seen at f r s p l e
-cell-accepted clock seen at f r p o l e = clock-accepted seen at f r l e
-cell-accepted separator seen at f r p o l e = separator-accepted seen at f r e
+cell-accepted (group g) seen at f r p o l e = group-accepted seen at f r g o l e
+cell-accepted (blank w) seen at f r p o l e = blank-accepted seen at f r w e
 
 -- ---- a list of columns
 

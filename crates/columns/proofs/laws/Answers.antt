@@ -5,8 +5,10 @@ use mathlib.Core.List.{List, append-nil}
 use Prim.Native.Nat.{ℕ}
 use native.Mathlib.Omega.{arith}
 use lib.ListN.{length, drop-of-length-le}
+use lib.Dec.{eqb}
+use borrow.Author.Tests.{ne-eqb, eq-eqb, eqb-true}
 use Rattle.columns.specs.declared.Outcome.{Outcome}
-use Rattle.columns.specs.Answer.{pick, Answer, ok, refusal, both, chain}
+use Rattle.columns.specs.Answer.{isOk, pick, Answer, ok, refusal, differs, both, chain}
 use Rattle.columns.specs.Number.{value}
 use Rattle.columns.specs.Table.{over, outcomeOf, Wrote, laid}
 use Rattle.columns.specs.declared.Outcome.the-variants as O
@@ -61,9 +63,32 @@ module _ {A : Type 0} where
   done-of (ok x) e = record { value = x; is = refl }
   done-of (refusal n k) e = let z : _≡_ {A = ℕ} 0 1 = cc in let y : ⊥ = omega arith in absurd y
 
+  pub ok-done : (a : Answer A) → O.Done ≡ outcomeOf a → true ≡ isOk a
+  ok-done (ok x) e = refl
+  ok-done (refusal n k) e = let z : _≡_ {A = ℕ} 0 1 = cc in let y : ⊥ = omega arith in absurd y
+
+  pub ok-refused : (a : Answer A) (n k : ℕ) → O.Refused n k ≡ outcomeOf a → false ≡ isOk a
+  ok-refused (ok x) n k e = let z : _≡_ {A = ℕ} 0 1 = cc in let y : ⊥ = omega arith in absurd y
+  ok-refused (refusal m j) n k e = refl
+
   pub refused-of : (a : Answer A) (n k : ℕ) → O.Refused n k ≡ outcomeOf a → a ≡ refusal n k
   refused-of (ok x) n k e = let z : _≡_ {A = ℕ} 0 1 = cc in let y : ⊥ = omega arith in absurd y
   refused-of (refusal m j) n k e = cc
+
+-- ---- two numbers that differ
+
+pub differs-not : (a b : ℕ) → a ≡ b → differs a b ≡ false
+differs-not a b e = rw (eq-eqb a b e)
+
+pub differs-same : (a b : ℕ) → differs a b ≡ false → a ≡ b
+differs-same a b e = by-test (eqb a b) refl e
+  where
+    by-test : (t : Bool) → eqb a b ≡ t → pick t false true ≡ false → a ≡ b
+    by-test true p q = eqb-true a b p
+    by-test false p q = let z : _≡_ {A = ℕ} 0 1 = cc in let y : ⊥ = omega arith in absurd y
+
+pub differs-is : (a b : ℕ) → (a ≡ b → ⊥) → differs a b ≡ true
+differs-is a b n = rw (ne-eqb a b n)
 
 -- ---- a list over the first places of another
 

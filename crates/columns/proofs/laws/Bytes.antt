@@ -1,17 +1,17 @@
--- Laws of stretches of bytes: blanks, copies, barred bytes, letters of a set.
-use mathlib.Core.Path.{_≡_, refl, sym, _∙_}
-use mathlib.Core.Bool.{Bool, true, false}
+-- Laws of stretches of bytes: blanks, copies, barred bytes, letters of a set, equal bytes.
+use mathlib.Core.Path.{_≡_, refl, sym, ap, _∙_}
+use mathlib.Core.Bool.{Bool, true, false, _&&_, false≢true}
 use mathlib.Core.List.{List, [], _∷_, _++_, append-assoc}
-use Prim.Native.Nat.{ℕ, zero, suc, _+_, _≤_, _<_}
+use Prim.Native.Nat.{ℕ, zero, suc, _+_, _-_, _≤_, _<_}
 use native.Mathlib.Nat.{zero-add, suc-add}
 use native.Mathlib.Numerals.{add-one}
 use native.Mathlib.Omega.{arith}
-use lib.ListN.{length, take, drop, getD, set, replicate, length-take, replicate-append-replicate, drop-of-length-le}
-use lib.Seq.{slice, slice-cons, slice-empty, take-nil, drop-nil, take-take, drop-drop, take-suc, take-suc-set, drop-cons, take-all, set-at, length-take-le, take-length}
-use lib.Dec.{eqb}
-use borrow.Author.Tests.{eq-eqb, ne-eqb, lt-leb, le-leb}
+use lib.ListN.{length, take, drop, getD, set, replicate, length-take, length-drop, replicate-append-replicate, drop-of-length-le}
+use lib.Seq.{slice, slice-cons, slice-empty, take-nil, drop-nil, take-take, drop-drop, take-suc, take-suc-set, take-add, drop-cons, take-all, set-at, length-take-le, take-length, getD-take, getD-drop}
+use lib.Dec.{eqb, ltb}
+use borrow.Author.Tests.{eq-eqb, ne-eqb, eqb-true, lt-leb, le-leb, ltb-true, ltb-false}
 use Rattle.columns.specs.Answer.{pick}
-use Rattle.columns.specs.Bytes.{isBracket, trim, isAllowed, inside, barred, member}
+use Rattle.columns.specs.Bytes.{isText, isBracket, trim, isAllowed, inside, Plain, barred, member, sameBytes}
 
 -- ---- a stretch of a line
 
@@ -97,14 +97,14 @@ module _ (bars : Bool) (b : ℕ) where
     pub barred-bracket : isBracket b ≡ true → bars ≡ pick (isAllowed bars b) false true
     barred-bracket e = sym (brackets bars true e)
 
+pub allowed-of : (t : Bool) → pick t false true ≡ false → t ≡ true
+allowed-of true e = refl
+allowed-of false e = sym e
+
 module _ (from to : ℕ) where
   module _ (s : List ℕ) (i k : ℕ) (h : i < length s) where
     rest-cons : drop i s ≡ getD s i 0 ∷ drop (i + 1) s
     rest-cons = rw add-one (drop-cons s i 0 h)
-
-    allowed-of : (t : Bool) → pick t false true ≡ false → t ≡ true
-    allowed-of true e = refl
-    allowed-of false e = sym e
 
     barred-of : (t : Bool) → pick t false true ≡ true → t ≡ false
     barred-of true e = sym e
@@ -121,6 +121,33 @@ module _ (from to : ℕ) where
   pub barred-none : (s : List ℕ) (i k : ℕ) → length s ≤ i → barred from to k (drop i s) ≡ 0
   unfolding barred
   barred-none s i k h = rw (drop-of-length-le s {i = i} h)
+
+-- ---- bytes that may stand in any column
+
+anywhere : (bars t u : Bool) → t && u ≡ true → t && pick bars u true ≡ true
+anywhere true t u e = e
+anywhere false true u e = refl
+anywhere false false u e = e
+
+pub plain-none : (from to k : ℕ) (s : List ℕ) → Plain (length s) s → barred from to k s ≡ 0
+unfolding barred
+plain-none from to k [] p = refl
+plain-none from to k (b ∷ s) p =
+    rw (anywhere (inside from to k) (isText b) (pick (isBracket b) false true) (p 0 (omega arith)))
+    (plain-none from to (k + 1) s (λ j h. p (suc j) (omega arith)))
+
+-- the first i bytes, and then the w bytes from k on, which may begin before i
+module _ (s : List ℕ) (i k w : ℕ) (h : k ≤ i) (f : k + w ≤ length s) (p : Plain i s) (q : Plain (length (take w (drop k s))) (take w (drop k s))) where
+  by-place : (t : Bool) (j : ℕ) → ltb j i ≡ t → j < k + w → isAllowed true (getD s j 0) ≡ true
+  by-place true j e l = p j (ltb-true _ _ e)
+  by-place false j e l =
+      let later : i ≤ j = ltb-false _ _ e in
+      let z : k + (j - k) ≡ j = omega arith in
+      let size = length-take-le w (drop k s) (simp length-drop (omega arith)) in
+      rw (getD-take w (drop k s) (j - k) 0 (omega arith), getD-drop k s (j - k) 0, z) at (q (j - k) (omega arith))
+
+  pub plain-more : Plain (k + w) s
+  plain-more j l = by-place (ltb j i) j refl l
 
 -- ---- letters of a set
 
@@ -149,3 +176,84 @@ module _ (l : List ℕ) (b i to : ℕ) where
   pub member-end : i ≤ to → to ≤ i → member b (slice i to l) ≡ false
   unfolding member
   member-end h k = let z : i ≡ to = omega arith in rw (z, slice-empty to l)
+
+-- ---- equal bytes
+
+not-first : (t x : Bool) → x ≡ false → pick t x false ≡ false
+not-first true x e = e
+not-first false x e = refl
+
+pub same-none : (b : ℕ) (s : List ℕ) → sameBytes [] (b ∷ s) ≡ false
+unfolding sameBytes
+same-none b s = refl
+
+pub same-length : (a b : List ℕ) → (length a ≡ length b → ⊥) → sameBytes a b ≡ false
+unfolding sameBytes
+same-length [] [] n = let y : ⊥ = n refl in absurd y
+same-length [] (y ∷ b) n = refl
+same-length (x ∷ a) [] n = refl
+same-length (x ∷ a) (y ∷ b) n = not-first (eqb x y) (sameBytes a b) (same-length a b (λ e. n (ap suc e)))
+
+module _ (a b : List ℕ) where
+  module _ (i : ℕ) where
+    pub same-end : length a ≤ i → length b ≤ i → sameBytes (drop i a) (drop i b) ≡ true
+    unfolding sameBytes
+    same-end h k = rw (drop-of-length-le a {i = i} h, drop-of-length-le b {i = i} k)
+
+first-same : (x y : ℕ) (t u : Bool) → eqb x y ≡ t → pick t u false ≡ true → (x ≡ y) × (u ≡ true)
+first-same x y true u e p = (eqb-true x y e, p)
+first-same x y false u e p = let z : _≡_ {A = ℕ} 0 1 = cc in let y : ⊥ = omega arith in absurd y
+
+-- what is equal byte for byte is one list
+pub same-is : (a b : List ℕ) → sameBytes a b ≡ true → a ≡ b
+unfolding sameBytes
+same-is [] [] e = refl
+same-is [] (y ∷ b) e = let z : _≡_ {A = ℕ} 0 1 = cc in let y : ⊥ = omega arith in absurd y
+same-is (x ∷ a) [] e = let z : _≡_ {A = ℕ} 0 1 = cc in let y : ⊥ = omega arith in absurd y
+same-is (x ∷ a) (y ∷ b) e =
+    let p = first-same x y (eqb x y) (sameBytes a b) refl e in
+    rw (p .0, same-is a b (p .1))
+
+pub same-self : (a : List ℕ) → sameBytes a a ≡ true
+unfolding sameBytes
+same-self [] = refl
+same-self (x ∷ a) = rw (eq-eqb x x refl) (same-self a)
+
+as-and : (t x : Bool) → pick t x false ≡ t && x
+as-and true x = refl
+as-and false x = refl
+
+module _ (a b : List ℕ) (i : ℕ) where
+  pub same-turn : i < length a → i < length b → (ok : Bool)
+      → ok && sameBytes (drop i a) (drop i b) ≡ ok && eqb (getD a i 0) (getD b i 0) && sameBytes (drop (i + 1) a) (drop (i + 1) b)
+  unfolding sameBytes
+  same-turn h k true = rw (drop-cons a i 0 h, drop-cons b i 0 k, add-one) (as-and (eqb (getD a i 0) (getD b i 0)) (sameBytes (drop (suc i) a) (drop (suc i) b)))
+  same-turn h k false = refl
+
+-- ---- the w bytes from k on differ
+
+module _ (a b : List ℕ) (k w : ℕ) (q : sameBytes (take w (drop k a)) (take w (drop k b)) ≡ false) where
+  by-whole : (t : Bool) → sameBytes a b ≡ t → t ≡ false
+  by-whole true e = absurd (false≢true (sym q ∙ rw (same-is a b e) (same-self _)))
+  by-whole false e = refl
+
+  pub parts-apart : sameBytes a b ≡ false
+  parts-apart = by-whole (sameBytes a b) refl
+
+-- ---- the first i bytes are equal, and the w bytes from k on are looked at, which may begin before i
+
+module _ (a b : List ℕ) (i k w : ℕ) (h : k ≤ i) (p : take i a ≡ take i b) where
+  pub parts-more : sameBytes (take w (drop k a)) (take w (drop k b)) ≡ true → take (k + w) a ≡ take (k + w) b
+  parts-more e =
+      let first : take k a ≡ take k b = sym (take-take k i a h) ∙ ap (take k) p ∙ take-take k i b h in
+      take-add k w a ∙ rw (first, same-is _ _ e) (sym (take-add k w b))
+
+  module _ (f : length a ≤ k + w) (g : length b ≤ k + w) where
+    by-part : (t : Bool) → sameBytes (take w (drop k a)) (take w (drop k b)) ≡ t → t ≡ sameBytes a b
+    by-part true e =
+        let whole : a ≡ b = sym (take-all (k + w) a f) ∙ parts-more e ∙ take-all (k + w) b g in
+        rw whole (sym (same-self b))
+    by-part false e = sym (parts-apart a b k w e)
+
+    pub parts-last : sameBytes (take w (drop k a)) (take w (drop k b)) ≡ sameBytes a b
+    parts-last = by-part _ refl

@@ -1,27 +1,28 @@
 -- Every record that is written by a list of columns reads back: by column, then over the list.
 use mathlib.Core.Path.{_≡_, refl, _∙_, subst, ap}
-use mathlib.Core.Bool.{Bool, true, false, _&&_}
+use mathlib.Core.Bool.{Bool, true, false}
 use mathlib.Core.List.{List, [], _∷_, _++_}
 use Prim.Native.Nat.{ℕ, _+_, _≤_}
 use native.Mathlib.Omega.{arith}
 use lib.ListN.{length, take, drop, getD, replicate, length-append, length-drop, length-replicate, take-append-drop}
-use lib.Dec.{leb, eqb, T, leb→le}
+use lib.Dec.{eqb, T}
 use lib.IntN.{ℤ}
 use borrow.Author.Tests.{eqb-true}
 use lib.Seq.{take-append-le, drop-append-le, take-at, drop-at, length-take-le}
-use Rattle.columns.specs.declared.number.Field.{Field}
+use Rattle.columns.specs.declared.number.Form.{Form}
+use Rattle.columns.specs.declared.group.Group.{Group}
 use Rattle.columns.specs.Answer.{pick, ok, refusal, barredByte, requiredBlank, outOfRange, wrongLetter, tooWide, chain, both, Answer}
-use Rattle.columns.specs.Bytes.{trim, member}
-use Rattle.columns.specs.Number.{intField, decField, holdsInt, holdsDec, intBytes, decBytes}
-use Rattle.columns.specs.Column.{Slot, missing, given, Range, allowed, Col, integer, decimal, text, letter, clock, separator, width, slots, texts, goodCol, good, widths, allSlots, allTexts, barsOf, joined}
-use Rattle.columns.specs.Reading.{oneNumber, judge, readCell, readColumns}
+use Rattle.columns.specs.Bytes.{member}
+use Rattle.columns.specs.Number.{formWidth, goodForm, fieldOf, holds, fieldBytes}
+use Rattle.columns.specs.Column.{Slot, missing, given, Rec, Range, allowed, Rule, anyText, noBrackets, notBlankFirst, ruleBars, Col, numeric, text, letter, group, blank, width, slots, texts, goodGroup, goodCol, good, widths, allSlots, allTexts, barsOf, joined}
+use Rattle.columns.specs.Reading.{oneNumber, someText, judge, judgeText, asText, readCell, readColumns}
 use Rattle.columns.specs.Writing.{putNumber, barredIn, putText, writeCell, writeColumns}
-use Rattle.columns.proofs.laws.Clear.{Clear, clear-blanks, clear-int, clear-dec, barred-clear}
+use Rattle.columns.proofs.laws.Clear.{Clear, clear-blanks, barred-clear}
 use Rattle.columns.proofs.laws.Answers.{passed, held, split}
-use Rattle.columns.proofs.laws.NumberBack.{int-back, int-blank, int-length, dec-back, dec-blank, dec-length}
-use Rattle.columns.proofs.laws.ClockBack.{clock-back, three-of}
+use Rattle.columns.proofs.laws.NumberBack.{trim-blanks}
+use Rattle.columns.proofs.laws.Form.{form-back, form-blank, form-length, form-clear}
+use Rattle.columns.proofs.laws.GroupBack.{group-back, three-of}
 use Rattle.columns.proofs.laws.Tests.{T-and}
-use Rattle.columns.specs.declared.number.Field.the-variants as F
 
 -- ---- short lists
 
@@ -42,61 +43,67 @@ pub record Written (c : Col) (seen : List Slot) (at : ℕ) (ns : List Slot) (t y
   pub plain : Clear (barsOf c) ys
   pub back : readCell c seen at ys ≡ ok (record { numbers = ns; chars = t })
 
-module _ (w : ℕ) (q : Bool) (fits : ℤ → Bool) (at : ℕ) (holds : ℤ → Bool) (bytes : ℤ → List ℕ) (read : List ℕ → Field) (e : read (replicate w 32) ≡ F.Missing) (f : (v : ℤ) → holds v ≡ true → read (bytes v) ≡ F.Value v) where
-  number-back : (x : Slot) (ys : List ℕ) → putNumber w q fits at holds bytes x ≡ ok ys → judge q fits at (read ys) ≡ ok (oneNumber x)
+module _ (m : Form) (q : Bool) (fits : ℤ → Bool) (at : ℕ) (o : T (goodForm m)) where
+  number-back : (x : Slot) (ys : List ℕ) → putNumber m q fits at x ≡ ok ys → judge q fits at (fieldOf m ys) ≡ ok (oneNumber x)
   number-back missing ys p =
-      let a = passed q requiredBlank (at + 1) (ok (replicate w 32)) ys p in
-      let b : replicate w 32 ≡ ys = cc (a .1) in
-      rw (← b, e, a .0)
+      let a = passed q requiredBlank (at + 1) (ok (replicate (formWidth m) 32)) ys p in
+      let b : replicate (formWidth m) 32 ≡ ys = cc (a .1) in
+      rw (← b, form-blank m, a .0)
   number-back (given v) ys p =
-      let a = held (holds v) tooWide (at + 1) (pick (fits v) (ok (bytes v)) (refusal outOfRange (at + 1))) ys p in
-      let b = held (fits v) outOfRange (at + 1) (ok (bytes v)) ys (a .1) in
-      let d : bytes v ≡ ys = cc (b .1) in
-      rw (← d, f v (a .0), b .0)
+      let a = held (holds m v) tooWide (at + 1) (pick (fits v) (ok (fieldBytes m v)) (refusal outOfRange (at + 1))) ys p in
+      let b = held (fits v) outOfRange (at + 1) (ok (fieldBytes m v)) ys (a .1) in
+      let d : fieldBytes m v ≡ ys = cc (b .1) in
+      rw (← d, form-back m v o (a .0), b .0)
 
   -- what holds of blanks and of every written number holds of what was written
-  number-put : (P : List ℕ → Type 0) → P (replicate w 32) → ((v : ℤ) → holds v ≡ true → P (bytes v)) → (x : Slot) (ys : List ℕ) → putNumber w q fits at holds bytes x ≡ ok ys → P ys
+  number-put : (P : List ℕ → Type 0) → P (replicate (formWidth m) 32) → ((v : ℤ) → holds m v ≡ true → P (fieldBytes m v)) → (x : Slot) (ys : List ℕ) → putNumber m q fits at x ≡ ok ys → P ys
   number-put P g h missing ys p =
-      let a = passed q requiredBlank (at + 1) (ok (replicate w 32)) ys p in
-      let b : replicate w 32 ≡ ys = cc (a .1) in
+      let a = passed q requiredBlank (at + 1) (ok (replicate (formWidth m) 32)) ys p in
+      let b : replicate (formWidth m) 32 ≡ ys = cc (a .1) in
       subst P b g
   number-put P g h (given v) ys p =
-      let a = held (holds v) tooWide (at + 1) (pick (fits v) (ok (bytes v)) (refusal outOfRange (at + 1))) ys p in
-      let b = held (fits v) outOfRange (at + 1) (ok (bytes v)) ys (a .1) in
-      let d : bytes v ≡ ys = cc (b .1) in
+      let a = held (holds m v) tooWide (at + 1) (pick (fits v) (ok (fieldBytes m v)) (refusal outOfRange (at + 1))) ys p in
+      let b = held (fits v) outOfRange (at + 1) (ok (fieldBytes m v)) ys (a .1) in
+      let d : fieldBytes m v ≡ ys = cc (b .1) in
       subst P d (h v (a .0))
 
+-- text that its rule lets pass
+pub text-passed : (r : Rule) (at : ℕ) (f ys : List ℕ) (o : Answer (List ℕ)) → judgeText r at f o ≡ ok ys → (o ≡ ok ys) × (judgeText r at f (ok f) ≡ ok f)
+text-passed anyText at f ys o e = (e, refl)
+text-passed noBrackets at f ys o e = (e, refl)
+text-passed notBlankFirst at f ys o e =
+    let p = passed (eqb (getD f 0 0) 32) requiredBlank (at + 1) o ys e in
+    (p .1, rw (p .0))
+
+text-case : (t : Bool) (n k : ℕ) (f : List ℕ) (r : Rec) → asText (pick t (refusal n k) (ok f)) ≡ ok r → (someText f ≡ r) × (pick t (refusal n k) (ok f) ≡ ok f)
+text-case true n k f r e = let z : _≡_ {A = ℕ} 0 1 = cc in let y : ⊥ = omega arith in absurd y
+text-case false n k f r e = (cc, refl)
+
+pub text-read : (x : Rule) (at : ℕ) (f : List ℕ) (r : Rec) → asText (judgeText x at f (ok f)) ≡ ok r → (someText f ≡ r) × (judgeText x at f (ok f) ≡ ok f)
+text-read anyText at f r e = (cc, refl)
+text-read noBrackets at f r e = (cc, refl)
+text-read notBlankFirst at f r e = text-case (eqb (getD f 0 0) 32) requiredBlank (at + 1) f r e
+
 module _ (seen : List Slot) (at : ℕ) (ns : List Slot) (t ys : List ℕ) where
-  int-written : (w : ℕ) (q : Bool) (g : Range) → 1 ≤ w → length ns ≡ 1 → length t ≡ 0 → writeCell (integer w q g) seen at ns t ≡ ok ys → Written (integer w q g) seen at ns t ys
+  number-written : (m : Form) (q : Bool) (g : Range) → T (goodForm m) → length ns ≡ 1 → length t ≡ 0 → writeCell (numeric m q g) seen at ns t ≡ ok ys → Written (numeric m q g) seen at ns t ys
   unfolding writeCell readCell
-  int-written w q g h a b e =
-      let f : (v : ℤ) → holdsInt w v ≡ true → intField (intBytes w v) ≡ F.Value v = λ v k. int-back w v h k in
+  number-written m q g o a b e =
       record {
-        size = number-put w q (allowed g seen) at (holdsInt w) (intBytes w) intField (int-blank w) f (λ (x : List ℕ). length x ≡ w) (length-replicate w 32) (λ v k. int-length w v h) (getD ns 0 missing) ys e;
-        plain = number-put w q (allowed g seen) at (holdsInt w) (intBytes w) intField (int-blank w) f (Clear false) (clear-blanks false w) (λ v k. clear-int false w v) (getD ns 0 missing) ys e;
-        back = number-back w q (allowed g seen) at (holdsInt w) (intBytes w) intField (int-blank w) f (getD ns 0 missing) ys e ∙ rw (← one-of ns missing a, nil-of t b);
+        size = number-put m q (allowed g seen) at o (λ (x : List ℕ). length x ≡ formWidth m) (length-replicate (formWidth m) 32) (λ v k. form-length m v o k) (getD ns 0 missing) ys e;
+        plain = number-put m q (allowed g seen) at o (Clear false) (clear-blanks false (formWidth m)) (λ v k. form-clear false m v) (getD ns 0 missing) ys e;
+        back = number-back m q (allowed g seen) at o (getD ns 0 missing) ys e ∙ rw (← one-of ns missing a, nil-of t b);
       }
 
-  dec-written : (w d : ℕ) (q : Bool) (g : Range) → d + 3 ≤ w → length ns ≡ 1 → length t ≡ 0 → writeCell (decimal w d q g) seen at ns t ≡ ok ys → Written (decimal w d q g) seen at ns t ys
+  text-written : (w : ℕ) (r : Rule) → length ns ≡ 0 → length t ≡ w → writeCell (text w r) seen at ns t ≡ ok ys → Written (text w r) seen at ns t ys
   unfolding writeCell readCell
-  dec-written w d q g h a b e =
-      let f : (v : ℤ) → holdsDec w v ≡ true → decField d (decBytes w d v) ≡ F.Value v = λ v k. dec-back w d v h k in
-      record {
-        size = number-put w q (allowed g seen) at (holdsDec w) (decBytes w d) (decField d) (dec-blank w d) f (λ (x : List ℕ). length x ≡ w) (length-replicate w 32) (λ v k. dec-length w d v h k) (getD ns 0 missing) ys e;
-        plain = number-put w q (allowed g seen) at (holdsDec w) (decBytes w d) (decField d) (dec-blank w d) f (Clear false) (clear-blanks false w) (λ v k. clear-dec false w d v) (getD ns 0 missing) ys e;
-        back = number-back w q (allowed g seen) at (holdsDec w) (decBytes w d) (decField d) (dec-blank w d) f (getD ns 0 missing) ys e ∙ rw (← one-of ns missing a, nil-of t b);
-      }
-
-  text-written : (w : ℕ) (q x : Bool) → length ns ≡ 0 → length t ≡ w → writeCell (text w q x) seen at ns t ≡ ok ys → Written (text w q x) seen at ns t ys
-  unfolding writeCell readCell
-  text-written w q x a b e =
-      let p = passed (q && eqb (getD t 0 0) 32) requiredBlank (at + 1) (putText x at t (ok t)) ys e in
-      let y = held (eqb (barredIn x at t) 0) barredByte (barredIn x at t) (ok t) ys (p .1) in
+  text-written w r a b e =
+      let p = text-passed r at t ys (putText (ruleBars r) at t (ok t)) e in
+      let y = held (eqb (barredIn (ruleBars r) at t) 0) barredByte (barredIn (ruleBars r) at t) (ok t) ys (p .0) in
       let d : t ≡ ys = cc (y .1) in
       record {
         size = rw (← d) b;
-        plain = subst (Clear x) d (barred-clear x at t (eqb-true _ _ (y .0)));
-        back = rw (← d, p .0, nil-of ns a);
+        plain = subst (Clear (ruleBars r)) d (barred-clear (ruleBars r) at t (eqb-true _ _ (y .0)));
+        back = rw (← d, p .1, nil-of ns a);
       }
 
   letter-written : (s : List ℕ) → length ns ≡ 0 → length t ≡ 1 → writeCell (letter s) seen at ns t ≡ ok ys → Written (letter s) seen at ns t ys
@@ -111,25 +118,24 @@ module _ (seen : List Slot) (at : ℕ) (ns : List Slot) (t ys : List ℕ) where
         back = rw (← d, y .0, nil-of ns a);
       }
 
-  clock-written : length ns ≡ 3 → length t ≡ 0 → writeCell clock seen at ns t ≡ ok ys → Written clock seen at ns t ys
+  group-written : (g : Group) → T (goodGroup g) → length ns ≡ 3 → length t ≡ 0 → writeCell (group g) seen at ns t ≡ ok ys → Written (group g) seen at ns t ys
   unfolding writeCell readCell
-  clock-written a b e =
-      let c = clock-back at (getD ns 0 missing) (getD ns 1 missing) (getD ns 2 missing) ys e in
+  group-written g o a b e =
+      let c = group-back g seen at o (getD ns 0 missing) (getD ns 1 missing) (getD ns 2 missing) ys e in
       record { size = c .size; plain = c .plain; back = c .back ∙ rw (← three-of ns missing a, nil-of t b) }
 
-  separator-written : length ns ≡ 0 → length t ≡ 0 → writeCell separator seen at ns t ≡ ok ys → Written separator seen at ns t ys
-  unfolding writeCell readCell trim
-  separator-written a b e =
-      let d : 32 ∷ [] ≡ ys = cc in
-      record { size = rw (← d) refl; plain = subst (Clear false) d (clear-blanks false 1); back = rw (← d, nil-of ns a, nil-of t b) }
+  blank-written : (w : ℕ) → length ns ≡ 0 → length t ≡ 0 → writeCell (blank w) seen at ns t ≡ ok ys → Written (blank w) seen at ns t ys
+  unfolding writeCell readCell
+  blank-written w a b e =
+      let d : replicate w 32 ≡ ys = cc in
+      record { size = rw (← d) (length-replicate w 32); plain = subst (Clear false) d (clear-blanks false w); back = rw (← d, trim-blanks w, nil-of ns a, nil-of t b) }
 
 pub cell-written : (c : Col) (seen : List Slot) (at : ℕ) (ns : List Slot) (t ys : List ℕ) → T (goodCol c) → length ns ≡ slots c → length t ≡ texts c → writeCell c seen at ns t ≡ ok ys → Written c seen at ns t ys
-cell-written (integer w q g) seen at ns t ys o a b e = int-written seen at ns t ys w q g (leb→le 1 w (T-and (leb 1 w) (leb w 18) o .0)) a b e
-cell-written (decimal w d q g) seen at ns t ys o a b e = dec-written seen at ns t ys w d q g (leb→le (d + 3) w (T-and (leb (d + 3) w) (leb w 18) o .0)) a b e
-cell-written (text w q x) seen at ns t ys o a b e = text-written seen at ns t ys w q x a b e
+cell-written (numeric m q g) seen at ns t ys o a b e = number-written seen at ns t ys m q g o a b e
+cell-written (text w r) seen at ns t ys o a b e = text-written seen at ns t ys w r a b e
 cell-written (letter s) seen at ns t ys o a b e = letter-written seen at ns t ys s a b e
-cell-written clock seen at ns t ys o a b e = clock-written seen at ns t ys a b e
-cell-written separator seen at ns t ys o a b e = separator-written seen at ns t ys a b e
+cell-written (group g) seen at ns t ys o a b e = group-written seen at ns t ys g o a b e
+cell-written (blank w) seen at ns t ys o a b e = blank-written seen at ns t ys w a b e
 
 -- ---- bytes that are allowed, column by column
 

@@ -1,24 +1,28 @@
 -- What the cursor finds in one column, as the code comes to it.
-use mathlib.Core.Path.{_≡_, _∙_}
-use mathlib.Core.Bool.{Bool, true, false}
-use mathlib.Core.List.{List, [], _∷_}
-use Prim.Native.Nat.{ℕ, _+_, _≤_, _<_}
+use mathlib.Core.Path.{_≡_, refl, _∙_}
+use mathlib.Core.Bool.{Bool, true, false, false≢true}
+use mathlib.Core.List.{List, []}
+use Prim.Native.Nat.{ℕ, _+_, _-_, _≤_, _<_}
 use native.Mathlib.Omega.{arith}
 use lib.ListN.{length, take, getD}
-use borrow.Author.Tests.{ne-eqb}
-use lib.Seq.{slice, getD-drop, getD-take}
-use Rattle.columns.specs.declared.clock.Time.{Time}
+use borrow.Author.Tests.{ne-eqb, eq-eqb, eqb-false}
+use lib.Dec.{eqb}
+use lib.Seq.{slice, length-slice, getD-drop, getD-take}
+use Rattle.columns.specs.declared.group.Three.{Three}
+use Rattle.columns.specs.declared.group.Group.{Group}
+use Rattle.columns.specs.declared.number.Form.{Form}
 use Rattle.columns.specs.declared.number.Field.{Field}
 use Rattle.columns.specs.declared.cursor.CellRead.{CellRead}
-use Rattle.columns.specs.Answer.{Answer, ok, refusal, notBlank, requiredBlank, wrongLetter}
-use Rattle.columns.specs.Bytes.{trim, allBlank, member}
-use Rattle.columns.specs.Number.{intField, decField}
-use Rattle.columns.specs.Column.{Slot, Rec, Range, allowed, Col, integer, decimal, text, letter, clock, separator}
-use Rattle.columns.specs.Clock.{timeOf, clockField, judgeClock}
+use Rattle.columns.specs.Answer.{pick, Answer, ok, refusal, notBlank, requiredBlank, wrongLetter}
+use Rattle.columns.specs.Bytes.{isNone, trim, allBlank, member}
+use Rattle.columns.specs.Number.{formWidth, fieldOf}
+use Rattle.columns.specs.Column.{Slot, Rec, Range, allowed, Rule, anyText, noBrackets, notBlankFirst, Col, numeric, text, letter, group, blank, width, firstWidth, secondStart, secondEnd, thirdStart, groupWidth}
+use Rattle.columns.specs.Group.{threeOf, groupField, judgeGroup}
 use Rattle.columns.specs.Reading.{nothing, someText, judge, readCell}
-use Rattle.columns.specs.Cell.{Found, Readable}
+use Rattle.columns.specs.Table.{ruleAt}
+use Rattle.columns.specs.Cell.{Found}
 use Rattle.columns.proofs.laws.Bytes.{part-none, part-cons, slice-drop, slice-take}
-use Rattle.columns.specs.declared.clock.Time.the-variants as K
+use Rattle.columns.specs.declared.group.Three.the-variants as K
 
 pub part-at : (l : List ℕ) (at e i : ℕ) → at + i < e → getD (slice at e l) i 0 ≡ getD l (at + i) 0
 part-at l at e i h = getD-drop at (take e l) i 0 ∙ getD-take e l (at + i) 0 h
@@ -35,44 +39,50 @@ module _ (l : List ℕ) (from start to : ℕ) (t : trim (slice from to l) ≡ sl
   pub blank-not : start < to → to ≤ length l → allBlank (slice from to l) ≡ false
   blank-not h k = rw (t, part-cons l start to h k)
 
--- ---- a clock time
+-- ---- a group
 
-module _ (l : List ℕ) (at : ℕ) where
-  pub clock-missing : allBlank (slice at (at + 12) l) ≡ true → K.Missing ≡ clockField (slice at (at + 12) l)
-  unfolding clockField
-  clock-missing e = rw e
+module _ (g : Group) (l : List ℕ) (at : ℕ) where
+  pub group-missing : allBlank (slice at (at + groupWidth g) l) ≡ true → K.Missing ≡ groupField g (slice at (at + groupWidth g) l)
+  unfolding groupField
+  group-missing e = rw e
 
-  module _ (b : allBlank (slice at (at + 12) l) ≡ false) where
-    pub clock-no-first : (getD l (at + 2) 0 ≡ 58 → ⊥) → K.Bad ≡ clockField (slice at (at + 12) l)
-    unfolding clockField
-    clock-no-first n = rw (b, part-at l at (at + 12) 2 (omega arith), ne-eqb _ _ n)
+  module _ (b : allBlank (slice at (at + groupWidth g) l) ≡ false) where
+    pub group-no-first : (getD l (at + firstWidth g) 0 ≡ g .mark → ⊥) → K.Bad ≡ groupField g (slice at (at + groupWidth g) l)
+    unfolding groupField
+    group-no-first n = rw (b, part-at l at (at + groupWidth g) (firstWidth g) (omega arith), ne-eqb _ _ n)
 
-    module _ (p : getD l (at + 2) 0 ≡ 58) where
-      pub clock-no-second : (getD l (at + 5) 0 ≡ 58 → ⊥) → K.Bad ≡ clockField (slice at (at + 12) l)
-      unfolding clockField
-      clock-no-second n = rw (b, part-at l at (at + 12) 2 (omega arith), part-at l at (at + 12) 5 (omega arith), p, ne-eqb _ _ n)
+    module _ (p : getD l (at + firstWidth g) 0 ≡ g .mark) where
+      pub group-no-second : (getD l (at + secondEnd g) 0 ≡ g .mark → ⊥) → K.Bad ≡ groupField g (slice at (at + groupWidth g) l)
+      unfolding groupField
+      group-no-second n = rw (b, part-at l at (at + groupWidth g) (firstWidth g) (omega arith), part-at l at (at + groupWidth g) (secondEnd g) (omega arith), p, ne-eqb _ _ n, eq-eqb (g .mark) (g .mark) refl)
 
-      pub clock-parts : getD l (at + 5) 0 ≡ 58 → timeOf (intField (slice at (at + 2) l)) (intField (slice (at + 3) (at + 3 + 2) l)) (decField 3 (slice (at + 6) (at + 6 + 6) l)) ≡ clockField (slice at (at + 12) l)
-      unfolding clockField
-      clock-parts q =
-          let z : at + 6 + 6 ≡ at + 12 = omega arith in
-          rw (b, part-at l at (at + 12) 2 (omega arith), part-at l at (at + 12) 5 (omega arith), p, q, slice-drop l at 3 (at + 12), slice-drop l at 6 (at + 12), slice-take l at 2 (at + 12) (omega arith), slice-take l (at + 3) 2 (at + 12) (omega arith), z)
+      pub group-parts : getD l (at + secondEnd g) 0 ≡ g .mark → threeOf (fieldOf (g .first .form) (slice at (at + firstWidth g) l)) (fieldOf (g .second .form) (slice (at + secondStart g) (at + secondStart g + formWidth (g .second .form)) l)) (fieldOf (g .third .form) (slice (at + thirdStart g) (at + thirdStart g + formWidth (g .third .form)) l)) ≡ groupField g (slice at (at + groupWidth g) l)
+      unfolding groupField
+      group-parts q =
+          let z : at + thirdStart g + formWidth (g .third .form) ≡ at + groupWidth g = omega arith in
+          rw (b, part-at l at (at + groupWidth g) (firstWidth g) (omega arith), part-at l at (at + groupWidth g) (secondEnd g) (omega arith), p, q, eq-eqb (g .mark) (g .mark) refl, slice-drop l at (secondStart g) (at + groupWidth g), slice-drop l at (thirdStart g) (at + groupWidth g), slice-take l at (firstWidth g) (at + groupWidth g) (omega arith), slice-take l (at + secondStart g) (formWidth (g .second .form)) (at + groupWidth g) (omega arith), z)
 
 -- ---- the answer of each kind of column
 
 module _ (seen : List Slot) (l : List ℕ) (at : ℕ) where
-  module _ (w : ℕ) (q x : Bool) where
-    pub text-any : q ≡ false → ok (someText (slice at (at + w) l)) ≡ readCell (text w q x) seen at (slice at (at + w) l)
+  module _ (w k : ℕ) where
+    low-rule : (a b : Bool) → (a ≡ false → b ≡ true) → ok (someText (slice at (at + w) l)) ≡ readCell (text w (pick a anyText (pick b noBrackets notBlankFirst))) seen at (slice at (at + w) l)
     unfolding readCell
-    text-any e = rw e
+    low-rule true b f = refl
+    low-rule false true f = refl
+    low-rule false false f = absurd (false≢true (f refl))
 
-    pub text-blank : 1 ≤ w → q ≡ true → getD l at 0 ≡ 32 → refusal requiredBlank (at + 1) ≡ readCell (text w q x) seen at (slice at (at + w) l)
-    unfolding readCell
-    text-blank h e p = rw (e, first-at l at (at + w) (omega arith), p)
+    pub text-any : k < 2 → ok (someText (slice at (at + w) l)) ≡ readCell (text w (ruleAt k)) seen at (slice at (at + w) l)
+    text-any h = low-rule (eqb k 0) (eqb k 1) (λ e. eq-eqb k 1 (omega (arith, eqb-false k 0 e)))
 
-    pub text-there : 1 ≤ w → q ≡ true → (getD l at 0 ≡ 32 → ⊥) → ok (someText (slice at (at + w) l)) ≡ readCell (text w q x) seen at (slice at (at + w) l)
-    unfolding readCell
-    text-there h e p = rw (e, first-at l at (at + w) (omega arith), ne-eqb _ _ p)
+    module _ (h : 1 ≤ w) (g : 2 ≤ k) where
+      pub text-blank : getD l at 0 ≡ 32 → refusal requiredBlank (at + 1) ≡ readCell (text w (ruleAt k)) seen at (slice at (at + w) l)
+      unfolding readCell
+      text-blank p = rw (ne-eqb k 0 (λ q. omega arith), ne-eqb k 1 (λ q. omega arith), first-at l at (at + w) (omega arith), p)
+
+      pub text-there : (getD l at 0 ≡ 32 → ⊥) → ok (someText (slice at (at + w) l)) ≡ readCell (text w (ruleAt k)) seen at (slice at (at + w) l)
+      unfolding readCell
+      text-there p = rw (ne-eqb k 0 (λ q. omega arith), ne-eqb k 1 (λ q. omega arith), first-at l at (at + w) (omega arith), ne-eqb _ _ p)
 
   module _ (s : List ℕ) where
     pub letter-known : member (getD l at 0) s ≡ true → ok (someText (slice at (at + 1) l)) ≡ readCell (letter s) seen at (slice at (at + 1) l)
@@ -83,52 +93,44 @@ module _ (seen : List Slot) (l : List ℕ) (at : ℕ) where
     unfolding readCell
     letter-other e = rw (first-at l at (at + 1) (omega arith), e)
 
-  module _ (h : at + 1 ≤ length l) where
-    one-byte : slice at (at + 1) l ≡ getD l at 0 ∷ []
-    one-byte = part-cons l at (at + 1) (omega arith) h ∙ rw (part-none l (at + 1) (at + 1) (omega arith) (omega arith))
+  -- the first byte of the stretch that is no blank, from place `start` on
+  module _ (w start : ℕ) (h : at + w ≤ length l) (t : trim (slice at (at + w) l) ≡ slice start (at + w) l) where
+    pub gap-blank : start ≡ at + w → ok nothing ≡ readCell (blank w) seen at (slice at (at + w) l)
+    unfolding readCell
+    gap-blank e = rw (t, part-none l start (at + w) (omega arith) (omega arith))
 
-    pub gap-blank : getD l at 0 ≡ 32 → ok nothing ≡ readCell separator seen at (slice at (at + 1) l)
-    unfolding readCell trim
-    gap-blank e = rw (one-byte, e)
-
-    pub gap-other : (getD l at 0 ≡ 32 → ⊥) → refusal notBlank (at + 1) ≡ readCell separator seen at (slice at (at + 1) l)
-    unfolding readCell trim
-    gap-other n = rw (one-byte, ne-eqb _ _ n)
+    pub gap-other : at ≤ start → start < at + w → refusal notBlank (start + 1) ≡ readCell (blank w) seen at (slice at (at + w) l)
+    unfolding readCell
+    gap-other a b =
+        let z : start + 1 ≡ at + 1 + (length (slice at (at + w) l) - length (slice start (at + w) l)) = omega (arith, length-slice at (at + w) l h, length-slice start (at + w) l h) in
+        let u : isNone (slice start (at + w) l) ≡ false = rw (part-cons l start (at + w) b h) in
+        rw (t, u, z)
 
 -- ---- a row of a table
 
 module _ (c : Col) (seen : List Slot) (at : ℕ) (f : List ℕ) (o : Answer Rec) where
-  pub read-int-is : (w : ℕ) (q : Bool) (g : Range) (x : Field) → c ≡ integer w q g → x ≡ intField f → o ≡ judge q (allowed g seen) at x → o ≡ readCell c seen at f
+  pub read-number-is : (m : Form) (q : Bool) (g : Range) (x : Field) → c ≡ numeric m q g → x ≡ fieldOf m f → o ≡ judge q (allowed g seen) at x → o ≡ readCell c seen at f
   unfolding readCell
-  read-int-is w q g x e y p = rw e (p ∙ rw y)
+  read-number-is m q g x e y p = rw e (p ∙ rw y)
 
-  pub read-dec-is : (w d : ℕ) (q : Bool) (g : Range) (x : Field) → c ≡ decimal w d q g → x ≡ decField d f → o ≡ judge q (allowed g seen) at x → o ≡ readCell c seen at f
+  pub read-group-is : (g : Group) (x : Three) → c ≡ group g → x ≡ groupField g f → o ≡ judgeGroup g seen at x → o ≡ readCell c seen at f
   unfolding readCell
-  read-dec-is w d q g x e y p = rw e (p ∙ rw y)
-
-  pub read-clock-is : (x : Time) → c ≡ clock → x ≡ clockField f → o ≡ judgeClock at x → o ≡ readCell c seen at f
-  unfolding readCell
-  read-clock-is x e y p = rw e (p ∙ rw y)
+  read-group-is g x e y p = rw e (p ∙ rw y)
 
 -- columns that see no numbers
 module _ (c : Col) (seen : List Slot) (at : ℕ) (f : List ℕ) where
-  pub read-text-is : (w : ℕ) (q x : Bool) → c ≡ text w q x → readCell (text w q false) [] at f ≡ readCell c seen at f
+  pub read-text-is : (w : ℕ) (x : Rule) → c ≡ text w x → readCell (text w x) [] at f ≡ readCell c seen at f
   unfolding readCell
-  read-text-is w q x e = rw e
+  read-text-is w x e = rw e
 
   pub read-letter-is : (s : List ℕ) → c ≡ letter s → readCell (letter s) [] at f ≡ readCell c seen at f
   unfolding readCell
   read-letter-is s e = rw e
 
-  pub read-gap-is : c ≡ separator → readCell separator [] at f ≡ readCell c seen at f
+  pub read-gap-is : (w : ℕ) → c ≡ blank w → readCell (blank w) [] at f ≡ readCell c seen at f
   unfolding readCell
-  read-gap-is e = rw e
+  read-gap-is w e = rw e
 
-pub found-as : (a b : Answer Rec) (r : CellRead) (at w : ℕ) (f : List ℕ) → a ≡ b → Found a r at w f → Found b r at w f
-found-as a b r at w f e x = record { answer = x .answer ∙ e; next = x .next }
-
-pub found-wide : (c : Col) (seen : List Slot) (at w v : ℕ) (l : List ℕ) (r : CellRead) → w ≡ v → Found (readCell c seen at (slice at (at + v) l)) r at v (slice at (at + v) l) → Found (readCell c seen at (slice at (at + w) l)) r at w (slice at (at + w) l)
-found-wide c seen at w v l r e x = rw e x
-
-pub readable-as : (c d : Col) (w at line k nf nv : ℕ) → d ≡ c → Readable d w at line k nf nv → Readable c w at line k nf nv
-readable-as c d w at line k nf nv e x = rw (← e) x
+-- what was found in a column of a width, as the column's own answer
+pub found-as : (a : Answer Rec) (c : Col) (seen : List Slot) (r : CellRead) (at w : ℕ) (l : List ℕ) → w ≡ width c → a ≡ readCell c seen at (slice at (at + w) l) → Found a r at w (slice at (at + w) l) → Found (readCell c seen at (slice at (at + width c) l)) r at (width c) (slice at (at + width c) l)
+found-as a c seen r at w l e q x = rw (← e) (record { answer = x .answer ∙ q; next = x .next })

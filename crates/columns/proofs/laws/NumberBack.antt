@@ -237,7 +237,7 @@ pen-aligned m (suc w) n h k = pen-step m w n h k (leb 10 n) refl (pen-aligned m 
 
 -- ---- a decimal field
 
-whole-fits : (a d n : ℕ) → n < 10 ^ (a + d) → n / 10 ^ d < 10 ^ a
+pub whole-fits : (a d n : ℕ) → n < 10 ^ (a + d) → n / 10 ^ d < 10 ^ a
 whole-fits a d n h = div-lt-iff-lt-mul {k = 10 ^ d} {x = n} {y = 10 ^ a} (power-pos d) .1 (rw pow-add at h)
 
 -- its whole part has room left of the point
@@ -279,7 +279,7 @@ module _ (w d : ℕ) (v : ℤ) (h : d + 3 ≤ w) (e : holdsDec w v ≡ true) whe
 
 -- ---- blank fields
 
-trim-blanks : (w : ℕ) → trim (replicate w 32) ≡ []
+pub trim-blanks : (w : ℕ) → trim (replicate w 32) ≡ []
 unfolding trim
 trim-blanks zero = refl
 trim-blanks (suc w) = trim-blanks w

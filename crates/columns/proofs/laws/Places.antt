@@ -49,6 +49,17 @@ module _ {A : Type 0} where
       ∙ ap (placed (k + 2) (z ∷ [])) b
       ∙ placed-placed k (k + 2) (x ∷ y ∷ []) (z ∷ []) l refl (omega arith)
 
+  -- more at the end of what stands over the first places
+  pub part-over : (xs ys l out : List A) (at : ℕ) → out ≡ over xs l → at ≡ length xs → at + length ys ≤ length l → placed at ys out ≡ over (xs ++ ys) l
+  part-over xs ys l out at e n h =
+      let z : at ≡ 0 + length xs = omega arith in
+      ap (placed at ys) e ∙ placed-placed 0 at xs ys l z h
+
+  pub set-over : (xs l out : List A) (x : A) (i : ℕ) → length xs ≡ i → i < length l → out ≡ over xs l → set out i x ≡ over (xs ++ x ∷ []) l
+  set-over xs l out x i n h e =
+      let k : length out ≡ length l = ap length e ∙ placed-length 0 xs l (omega arith) in
+      set-placed i out x (omega arith) ∙ part-over xs (x ∷ []) l out i e (sym n) (omega arith)
+
 -- a part of a lent list, written over as a whole
 pub part-placed : (k e : ℕ) (ys l : List ℕ) → e ≡ k + length ys → putMid k (e - k) l ys ≡ placed k ys l
 part-placed k e ys l h = let z : e - k ≡ length ys = omega arith in rw z

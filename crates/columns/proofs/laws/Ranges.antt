@@ -1,18 +1,21 @@
 -- Laws of the range step, as the code comes to it.
 use mathlib.Core.Path.{_≡_, refl}
-use mathlib.Core.Bool.{Bool, true, false}
-use mathlib.Core.List.{List}
-use Prim.Native.Nat.{ℕ, _≤_}
+use mathlib.Core.Bool.{Bool, true, false, not}
+use mathlib.Core.List.{List, [], _∷_}
+use Prim.Native.Nat.{ℕ, zero, suc, _+_, _≤_}
 use native.Mathlib.Omega.{arith}
-use lib.Dec.{ltb}
+use lib.Dec.{T}
+use lib.ListN.{length, getD}
 use lib.IntN.{ℤ, pos, negsuc, natAbs}
-use borrow.Author.Tests.{ltb-false}
+use borrow.Author.Tests.{ne-eqb}
 use mir.Syntax.{w64}
 use mir.Val.{SFits, toZ, ofZ}
 use mir.ValLaws.{toZ-ofZ}
-use lib.Signed.{ltZ}
+use lib.Signed.{ltZ, leZ}
 use Rattle.columns.specs.Answer.{pick}
-use Rattle.columns.specs.Column.{Slot, span, within, allowed}
+use Rattle.columns.specs.declared.group.Part.{Part}
+use Rattle.columns.specs.Column.{Slot, within, allowed, partRange}
+use Rattle.columns.specs.Table.{rangeAt}
 
 -- a test of two signed numbers, as the code makes it
 pub test-of : (v w : ℤ) (b : Bool) → SFits w64 v → SFits w64 w → ltZ (toZ w64 (ofZ w64 v)) (toZ w64 (ofZ w64 w)) ≡ b → ltZ v w ≡ b
@@ -28,16 +31,37 @@ module _ (lo hi v : ℤ) where
   pub within-in : ltZ v lo ≡ false → ltZ hi v ≡ false → true ≡ within lo hi v
   within-in e f = rw (e, f)
 
-pub span-allowed : (lo hi : ℤ) (seen : List Slot) (v : ℤ) → within lo hi v ≡ allowed (span lo hi) seen v
+-- an end past the ranges is zero
+pub getD-past : (rs : List ℤ) (i : ℕ) → length rs ≤ i → pos 0 ≡ getD rs i (pos 0)
+getD-past [] i h = refl
+getD-past (r ∷ rs) zero h = let y : ⊥ = omega arith in absurd y
+getD-past (r ∷ rs) (suc i) h = getD-past rs i (omega arith)
+
+-- the range by its number, as the code comes to it
+module _ (rs : List ℤ) (k : ℕ) (seen : List Slot) (v : ℤ) where
+  pub allowed-held : k ≡ 0 → true ≡ allowed (rangeAt rs k) seen v
+  unfolding allowed
+  allowed-held e = rw e
+
+  pub allowed-from-zero : k ≡ 1 → leZ (pos 0) v ≡ allowed (rangeAt rs k) seen v
+  unfolding allowed
+  allowed-from-zero e = rw e
+
+  pub allowed-span : (k ≡ 0 → ⊥) → (k ≡ 1 → ⊥) → within (getD rs k (pos 0)) (getD rs (k + 1) (pos 0)) v ≡ allowed (rangeAt rs k) seen v
+  unfolding allowed
+  allowed-span a b = rw (ne-eqb k 0 a, ne-eqb k 1 b)
+
+pub part-allowed : (p : Part) (seen : List Slot) (v : ℤ) → within (p .low) (p .high) v ≡ allowed (partRange p) seen v
 unfolding allowed
-span-allowed lo hi seen v = refl
+part-allowed p seen v = refl
 
-below-pos : (hi n : ℕ) (a b : Bool) → ltb hi n ≡ b → pick a false (pick b false true) ≡ true → n ≤ hi
-below-pos hi n true b e q = let z : _≡_ {A = ℕ} 0 1 = cc in let y : ⊥ = omega arith in absurd y
-below-pos hi n false true e q = let z : _≡_ {A = ℕ} 0 1 = cc in let y : ⊥ = omega arith in absurd y
-below-pos hi n false false e q = ltb-false hi n e
+-- a number in a range from zero on is no negative one
+low-case : (lo hi : ℤ) (n : ℕ) (b : Bool) → ltZ (negsuc n) lo ≡ b → T (not (ltZ lo (pos 0))) → pick b false (pick (ltZ hi (negsuc n)) false true) ≡ true → ⊥
+low-case lo hi n true e t q = let z : _≡_ {A = ℕ} 0 1 = cc in omega arith
+low-case (pos m) hi n false e t q = let z : _≡_ {A = ℕ} 0 1 = cc in omega arith
+low-case (negsuc m) hi n false e t q = absurd t
 
--- a number in a range from 0 is no negative one
-pub below : (hi : ℕ) (v : ℤ) → within (pos 0) (pos hi) v ≡ true → (v ≡ pos (natAbs v)) × (natAbs v ≤ hi)
-below hi (pos n) e = (refl, below-pos hi n (ltb n 0) (ltb hi n) refl e)
-below hi (negsuc n) e = let z : _≡_ {A = ℕ} 0 1 = cc in let y : ⊥ = omega arith in absurd y
+pub not-below : (p : Part) (seen : List Slot) (v : ℤ) → T (not (ltZ (p .low) (pos 0))) → allowed (partRange p) seen v ≡ true → v ≡ pos (natAbs v)
+unfolding allowed
+not-below p seen (pos n) t e = refl
+not-below p seen (negsuc n) t e = absurd (low-case (p .low) (p .high) n (ltZ (negsuc n) (p .low)) refl t e)

@@ -1,33 +1,34 @@
 -- Laws of the table's reader: what one column gives, and the turns of its loop.
 use mathlib.Core.Path.{_≡_, refl, sym, ap, _∙_}
-use mathlib.Core.Bool.{Bool, _&&_}
+use mathlib.Core.Bool.{Bool}
 use mathlib.Core.List.{List, [], _∷_, _++_, append-assoc, append-nil}
 use Prim.Native.Nat.{ℕ, _+_, _-_, _≤_, _<_}
 use native.Mathlib.Omega.{arith}
 use lib.ListN.{length, take, drop, getD, length-append, length-drop}
-use lib.Dec.{eqb}
 use lib.IntN.{ℤ}
 use lib.Seq.{length-take-le, drop-drop, slice}
 use Rattle.columns.specs.declared.Outcome.{Outcome}
 use Rattle.columns.specs.declared.number.Field.{Field}
-use Rattle.columns.specs.declared.clock.Time.{Time}
+use Rattle.columns.specs.declared.group.Three.{Three}
+use Rattle.columns.specs.declared.group.Group.{Group}
 use Rattle.columns.specs.declared.cursor.Cell.{Cell}
 use Rattle.columns.specs.declared.column.Column.{Column}
 use Rattle.columns.specs.Answer.{Answer, ok, refusal, both, notBlank, requiredBlank, outOfRange, wrongLetter}
-use Rattle.columns.specs.Bytes.{allBlank, member}
-use Rattle.columns.specs.Number.{intField, decField}
-use Rattle.columns.specs.Column.{Slot, missing, given, Rec, joined, allowed, Col, integer, decimal, text, letter, clock, separator, width, slots, texts}
-use Rattle.columns.specs.Clock.{clockRange, clockRec, clockField, judgeClock}
+use Rattle.columns.specs.Bytes.{isNone, trim, member}
+use Rattle.columns.specs.Number.{fieldOf}
+use Rattle.columns.specs.Column.{Slot, missing, given, Rec, joined, allowed, Col, numeric, text, letter, group, blank, width, slots, texts}
+use Rattle.columns.specs.Group.{groupRange, groupRec, groupField, judgeGroup}
 use Rattle.columns.specs.Reading.{nothing, oneNumber, someText, judge, readCell, readColumns, readPart}
-use Rattle.columns.specs.Table.{colOf, columnAt, columnsOf, slotsOf, flagsOf, valuesOf, over, outcomeOf, ReadPart, Table, placed}
+use Rattle.columns.specs.Table.{columnIn, colOf, columnsOf, slotsOf, flagsOf, valuesOf, over, outcomeOf, ReadPart, Table, placed}
 use Rattle.columns.specs.Cell.{cellRec, cellAnswer, Readable, Storable, Stored}
 use Rattle.columns.proofs.laws.Answers.{passed, held, chained, done-of, refused-of}
 use Rattle.columns.proofs.laws.Places.{placed-length, placed-placed, placed-none}
 use Rattle.columns.proofs.laws.Table.{flags-length, values-length, flags-append, values-append, slots-laid, columns-more, columns-none, table-good, table-fits, table-numbers, table-chars, table-line, table-next}
 use Rattle.columns.proofs.laws.Bytes.{slice-is}
+use Rattle.columns.proofs.laws.Columns.{text-read}
 use Rattle.columns.specs.declared.Outcome.the-variants as O
 use Rattle.columns.specs.declared.number.Field.the-variants as F
-use Rattle.columns.specs.declared.clock.Time.the-variants as K
+use Rattle.columns.specs.declared.group.Three.the-variants as K
 use Rattle.columns.specs.declared.cursor.Cell.the-variants as C
 
 -- ---- what was read has the column's sizes
@@ -41,11 +42,11 @@ judge-sizes q fits at (F.Value v) r e =
     let d : oneNumber (given v) ≡ r = cc (held (fits v) outOfRange (at + 1) (ok (oneNumber (given v))) r e .1) in
     rw (← d) (refl, refl)
 
-clock-sizes : (at : ℕ) (x : Time) (r : Rec) → judgeClock at x ≡ ok r → (length (r .numbers) ≡ 3) × (length (r .chars) ≡ 0)
-clock-sizes at K.Missing r e = let d : clockRec missing missing missing ≡ r = cc in rw (← d) (refl, refl)
-clock-sizes at K.Bad r e = let z : _≡_ {A = ℕ} 0 1 = cc in let y : ⊥ = omega arith in absurd y
-clock-sizes at (K.Given h m s) r e =
-    let d : clockRec (given h) (given m) (given s) ≡ r = cc (held (clockRange h m s) outOfRange (at + 1) (ok (clockRec (given h) (given m) (given s))) r e .1) in
+group-sizes : (g : Group) (seen : List Slot) (at : ℕ) (x : Three) (r : Rec) → judgeGroup g seen at x ≡ ok r → (length (r .numbers) ≡ 3) × (length (r .chars) ≡ 0)
+group-sizes g seen at K.Missing r e = let d : groupRec missing missing missing ≡ r = cc in rw (← d) (refl, refl)
+group-sizes g seen at K.Bad r e = let z : _≡_ {A = ℕ} 0 1 = cc in let y : ⊥ = omega arith in absurd y
+group-sizes g seen at (K.Given h m s) r e =
+    let d : groupRec (given h) (given m) (given s) ≡ r = cc (held (groupRange g seen h m s) outOfRange (at + 1) (ok (groupRec (given h) (given m) (given s))) r e .1) in
     rw (← d) (refl, refl)
 
 text-sizes : (f : List ℕ) (w : ℕ) (r : Rec) → length f ≡ w → someText f ≡ r → (length (r .numbers) ≡ 0) × (length (r .chars) ≡ w)
@@ -53,47 +54,45 @@ text-sizes f w r l d = rw (← d) (refl, l)
 
 pub cell-sizes : (c : Col) (seen : List Slot) (at : ℕ) (f : List ℕ) (r : Rec) → length f ≡ width c → readCell c seen at f ≡ ok r → (length (r .numbers) ≡ slots c) × (length (r .chars) ≡ texts c)
 unfolding readCell
-cell-sizes (integer w q g) seen at f r l e = judge-sizes q (allowed g seen) at (intField f) r e
-cell-sizes (decimal w d q g) seen at f r l e = judge-sizes q (allowed g seen) at (decField d f) r e
-cell-sizes (text w q x) seen at f r l e =
-    text-sizes f w r l (cc (passed (q && eqb (getD f 0 0) 32) requiredBlank (at + 1) (ok (someText f)) r e .1))
+cell-sizes (numeric m q g) seen at f r l e = judge-sizes q (allowed g seen) at (fieldOf m f) r e
+cell-sizes (text w x) seen at f r l e = text-sizes f w r l (text-read x at f r e .0)
 cell-sizes (letter s) seen at f r l e =
     text-sizes f 1 r l (cc (held (member (getD f 0 0) s) wrongLetter (at + 1) (ok (someText f)) r e .1))
-cell-sizes clock seen at f r l e = clock-sizes at (clockField f) r e
-cell-sizes separator seen at f r l e =
-    let d : nothing ≡ r = cc (held (allBlank f) notBlank (at + 1) (ok nothing) r e .1) in
+cell-sizes (group g) seen at f r l e = group-sizes g seen at (groupField g f) r e
+cell-sizes (blank w) seen at f r l e =
+    let d : nothing ≡ r = cc (held (isNone (trim f)) notBlank (at + 1 + (length f - length (trim f))) (ok nothing) r e .1) in
     rw (← d) (refl, refl)
 
 -- ---- what the cursor found, as an answer
 
-module _ (at : ℕ) (f : List ℕ) where
-  pub cell-done : (x : Cell) → O.Done ≡ outcomeOf (cellAnswer x at f) → cellAnswer x at f ≡ ok (cellRec x f)
+module _ (f : List ℕ) where
+  pub cell-done : (x : Cell) → O.Done ≡ outcomeOf (cellAnswer x f) → cellAnswer x f ≡ ok (cellRec x f)
   cell-done C.Absent e = refl
   cell-done (C.Number v) e = refl
-  cell-done C.NoTime e = refl
-  cell-done (C.Clock h m s) e = refl
+  cell-done C.NoThree e = refl
+  cell-done (C.Three h m s) e = refl
   cell-done C.Chars e = refl
   cell-done C.Gap e = refl
-  cell-done (C.Refused n) e = let z : _≡_ {A = ℕ} 0 1 = cc in let y : ⊥ = omega arith in absurd y
+  cell-done (C.Refused n k) e = let z : _≡_ {A = ℕ} 0 1 = cc in let y : ⊥ = omega arith in absurd y
 
-  pub cell-refused : (x : Cell) (m j : ℕ) → O.Refused m j ≡ outcomeOf (cellAnswer x at f) → (cellAnswer x at f ≡ refusal m j) × (cellRec x f ≡ nothing)
+  pub cell-refused : (x : Cell) (m j : ℕ) → O.Refused m j ≡ outcomeOf (cellAnswer x f) → (cellAnswer x f ≡ refusal m j) × (cellRec x f ≡ nothing)
   cell-refused C.Absent m j e = let z : _≡_ {A = ℕ} 0 1 = cc in let y : ⊥ = omega arith in absurd y
   cell-refused (C.Number v) m j e = let z : _≡_ {A = ℕ} 0 1 = cc in let y : ⊥ = omega arith in absurd y
-  cell-refused C.NoTime m j e = let z : _≡_ {A = ℕ} 0 1 = cc in let y : ⊥ = omega arith in absurd y
-  cell-refused (C.Clock h i s) m j e = let z : _≡_ {A = ℕ} 0 1 = cc in let y : ⊥ = omega arith in absurd y
+  cell-refused C.NoThree m j e = let z : _≡_ {A = ℕ} 0 1 = cc in let y : ⊥ = omega arith in absurd y
+  cell-refused (C.Three h i s) m j e = let z : _≡_ {A = ℕ} 0 1 = cc in let y : ⊥ = omega arith in absurd y
   cell-refused C.Chars m j e = let z : _≡_ {A = ℕ} 0 1 = cc in let y : ⊥ = omega arith in absurd y
   cell-refused C.Gap m j e = let z : _≡_ {A = ℕ} 0 1 = cc in let y : ⊥ = omega arith in absurd y
-  cell-refused (C.Refused n) m j e = (cc, refl)
+  cell-refused (C.Refused n k) m j e = (cc, refl)
 
-  cell-case : (x : Cell) (c : Col) (seen : List Slot) → length f ≡ width c → cellAnswer x at f ≡ readCell c seen at f → (o : Outcome) → o ≡ outcomeOf (cellAnswer x at f) → (length (cellRec x f .numbers) ≤ slots c) × (length (cellRec x f .chars) ≤ texts c)
-  cell-case x c seen l e O.Done p =
+  cell-case : (x : Cell) (c : Col) (seen : List Slot) (at : ℕ) → length f ≡ width c → cellAnswer x f ≡ readCell c seen at f → (o : Outcome) → o ≡ outcomeOf (cellAnswer x f) → (length (cellRec x f .numbers) ≤ slots c) × (length (cellRec x f .chars) ≤ texts c)
+  cell-case x c seen at l e O.Done p =
       let z = cell-sizes c seen at f (cellRec x f) l (sym e ∙ cell-done x p) in
       (omega (arith, z .0), omega (arith, z .1))
-  cell-case x c seen l e (O.Refused m j) p = rw (cell-refused x m j p .1) (omega arith, omega arith)
+  cell-case x c seen at l e (O.Refused m j) p = rw (cell-refused x m j p .1) (omega arith, omega arith)
 
   -- it fits where its column does
-  pub cell-fits : (x : Cell) (c : Col) (seen : List Slot) → length f ≡ width c → cellAnswer x at f ≡ readCell c seen at f → (length (cellRec x f .numbers) ≤ slots c) × (length (cellRec x f .chars) ≤ texts c)
-  cell-fits x c seen l e = cell-case x c seen l e (outcomeOf (cellAnswer x at f)) refl
+  pub cell-fits : (x : Cell) (c : Col) (seen : List Slot) (at : ℕ) → length f ≡ width c → cellAnswer x f ≡ readCell c seen at f → (length (cellRec x f .numbers) ≤ slots c) × (length (cellRec x f .chars) ≤ texts c)
+  cell-fits x c seen at l e = cell-case x c seen at l e (outcomeOf (cellAnswer x f)) refl
 
 -- ---- records in two parts
 
@@ -202,12 +201,12 @@ unfolding readColumns readPart
 going-end g = going-part g O.Done (ok (g .done)) (g .read ∙ ap ok (joined-none (g .done))) (g .part ∙ joined-none (g .done)) refl
 
 module _ {cs : List Col} {start : ℕ} {line f₀ : List ℕ} {v₀ : List ℤ} {t₀ : List ℕ} {c : Col} {rest : List Col} {at k t : ℕ} {f : List ℕ} {v : List ℤ} {x : List ℕ} (g : Going cs start line f₀ v₀ t₀ (c ∷ rest) at k t f v x) where
-  pub turn-readable : (w : ℕ) → w ≡ width c → Readable c w at (length line) k (length f) (length v)
-  turn-readable w e =
+  pub turn-readable : Readable c at (length line) k (length f) (length v)
+  turn-readable =
       record {
         fine = table-good (g .ready) .0;
-        wide = e;
-        fits = table-fits (g .ready) w e;
+        fits = table-fits (g .ready) (width c) refl;
+        low = g .ready .low;
         same = flags-size g ∙ g .ready .same ∙ sym (values-size g);
         seen = omega (arith, flags-size g, table-numbers (g .ready));
       }
@@ -215,37 +214,37 @@ module _ {cs : List Col} {start : ℕ} {line f₀ : List ℕ} {v₀ : List ℤ} 
   pub bytes-size : length (take (width c) (drop at line)) ≡ width c
   bytes-size = length-take-le (width c) (drop at line) (omega (arith, length-drop at line, table-line (g .ready)))
 
-  module _ (y : Cell) (b : List ℕ) (eb : b ≡ take (width c) (drop at line)) (e : cellAnswer y at b ≡ readCell c (take k (slotsOf f v)) at b) where
+  module _ (y : Cell) (b : List ℕ) (eb : b ≡ take (width c) (drop at line)) (e : cellAnswer y b ≡ readCell c (take k (slotsOf f v)) at b) where
     b-size : length b ≡ width c
     b-size = ap length eb ∙ bytes-size
 
     -- the column, as the list of columns has it
-    turn-cell : (o : Answer Rec) → cellAnswer y at b ≡ o → readCell c (g .done .numbers) at (take (width c) (drop at line)) ≡ o
+    turn-cell : (o : Answer Rec) → cellAnswer y b ≡ o → readCell c (g .done .numbers) at (take (width c) (drop at line)) ≡ o
     turn-cell o p = rw (← going-seen g, ← eb) (sym e ∙ p)
 
     pub turn-storable : Storable (cellRec y b) k (length f) (length v) t (length x)
     turn-storable =
-        let z = cell-fits at b y c (take k (slotsOf f v)) b-size e in
+        let z = cell-fits b y c (take k (slotsOf f v)) at b-size e in
         record {
           same = flags-size g ∙ g .ready .same ∙ sym (values-size g);
           numbers = omega (arith, z .0, table-numbers (g .ready), flags-size g);
           chars = omega (arith, z .1, table-chars (g .ready), text-size g);
         }
 
-    pub turn-refused : (m j : ℕ) {f₁ : List ℕ} {v₁ : List ℤ} {x₁ : List ℕ} → Stored (cellAnswer y at b) (cellRec y b) (O.Refused m j) k f f₁ v v₁ t x x₁ → ReadPart (readColumns cs [] start (drop start line)) (readPart cs [] start (drop start line)) (O.Refused m j) f₀ f₁ v₀ v₁ t₀ x₁
+    pub turn-refused : (m j : ℕ) {f₁ : List ℕ} {v₁ : List ℤ} {x₁ : List ℕ} → Stored (cellAnswer y b) (cellRec y b) (O.Refused m j) k f f₁ v v₁ t x x₁ → ReadPart (readColumns cs [] start (drop start line)) (readPart cs [] start (drop start line)) (O.Refused m j) f₀ f₁ v₀ v₁ t₀ x₁
     unfolding readColumns readPart flagsOf valuesOf
     turn-refused m j {f₁} {v₁} {x₁} s =
-        let p = cell-refused at b y m j (s .answer) in
+        let p = cell-refused b y m j (s .answer) in
         let q = turn-cell (refusal m j) (p .0) in
         let a : f₁ ≡ f = s .flags ∙ rw (p .1) (sym (placed-none k f)) in
         let d : v₁ ≡ v = s .values ∙ rw (p .1) (sym (placed-none k v)) in
         let u : x₁ ≡ x = s .chars ∙ rw (p .1) (sym (placed-none t x)) in
         rw (a, d, u) (going-part g (O.Refused m j) (refusal m j) (g .read ∙ rw q) (g .part ∙ rw q (joined-none (g .done))) refl)
 
-    pub turn-done : (at₁ k₁ t₁ : ℕ) → at₁ ≡ at + width c → k₁ ≡ k + slots c → t₁ ≡ t + texts c → {f₁ : List ℕ} {v₁ : List ℤ} {x₁ : List ℕ} → Stored (cellAnswer y at b) (cellRec y b) O.Done k f f₁ v v₁ t x x₁ → Going cs start line f₀ v₀ t₀ rest at₁ k₁ t₁ f₁ v₁ x₁
+    pub turn-done : (at₁ k₁ t₁ : ℕ) → at₁ ≡ at + width c → k₁ ≡ k + slots c → t₁ ≡ t + texts c → {f₁ : List ℕ} {v₁ : List ℤ} {x₁ : List ℕ} → Stored (cellAnswer y b) (cellRec y b) O.Done k f f₁ v v₁ t x x₁ → Going cs start line f₀ v₀ t₀ rest at₁ k₁ t₁ f₁ v₁ x₁
     unfolding readColumns readPart
     turn-done at₁ k₁ t₁ ea ek et s =
-        let q = turn-cell (ok (cellRec y b)) (cell-done at b y (s .answer)) in
+        let q = turn-cell (ok (cellRec y b)) (cell-done b y (s .answer)) in
         let z = cell-sizes c (g .done .numbers) at (take (width c) (drop at line)) (cellRec y b) bytes-size q in
         record {
           done = joined (g .done) (cellRec y b);
@@ -279,7 +278,7 @@ module _ {cs : List Col} {start : ℕ} {line f₀ : List ℕ} {v₀ : List ℤ} 
         }
 
 -- the next row of the table
-pub going-row : (s : List ℕ) (r : List ℤ) (ls : List ℕ) (i n : ℕ) (row : Column) {cs : List Col} {start : ℕ} {line f₀ : List ℕ} {v₀ : List ℤ} {t₀ : List ℕ} {at k t : ℕ} {f : List ℕ} {v : List ℤ} {x : List ℕ} → i < n → row ≡ columnAt s r i → Going cs start line f₀ v₀ t₀ (columnsOf s r ls i (n - i)) at k t f v x → Going cs start line f₀ v₀ t₀ (colOf row ls ∷ columnsOf s r ls (i + 1) (n - (i + 1))) at k t f v x
+pub going-row : (s : List ℕ) (r : List ℤ) (ls : List ℕ) (i n : ℕ) (row : Column) {cs : List Col} {start : ℕ} {line f₀ : List ℕ} {v₀ : List ℤ} {t₀ : List ℕ} {at k t : ℕ} {f : List ℕ} {v : List ℤ} {x : List ℕ} → i < n → row ≡ columnIn (getD s i 0) → Going cs start line f₀ v₀ t₀ (columnsOf s r ls i (n - i)) at k t f v x → Going cs start line f₀ v₀ t₀ (colOf row r ls ∷ columnsOf s r ls (i + 1) (n - (i + 1))) at k t f v x
 going-row s r ls i n row h e g = rw (e, ← columns-more s r ls i n h) g
 
 pub going-last : (s : List ℕ) (r : List ℤ) (ls : List ℕ) (i n : ℕ) {cs : List Col} {start : ℕ} {line f₀ : List ℕ} {v₀ : List ℤ} {t₀ : List ℕ} {at k t : ℕ} {f : List ℕ} {v : List ℤ} {x : List ℕ} → n ≤ i → Going cs start line f₀ v₀ t₀ (columnsOf s r ls i (n - i)) at k t f v x → Going cs start line f₀ v₀ t₀ [] at k t f v x

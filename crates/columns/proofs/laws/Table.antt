@@ -1,126 +1,134 @@
 -- Laws of tables: the column of a row by its kind, its sizes, and the numbers of a record.
 use mathlib.Core.Path.{_≡_, refl, sym, ap, _∙_}
-use mathlib.Core.Bool.{Bool, _&&_}
+use mathlib.Core.Bool.{Bool, true, false}
 use mathlib.Core.List.{List, [], _∷_, _++_}
-use Prim.Native.Nat.{ℕ, zero, suc, _+_, _-_, _*_, _≤_, _<_}
+use Prim.Native.Nat.{ℕ, zero, suc, _+_, _-_, _≤_, _<_}
 use native.Mathlib.Omega.{arith}
 use lib.ListN.{length, take, getD}
-use lib.Dec.{leb, ltb, eqb, T, leb→le}
+use lib.Dec.{leb, eqb, T, leb→le}
 use lib.IntN.{ℤ, pos}
-use borrow.Author.Tests.{ne-eqb, le-ltb}
+use borrow.Author.Tests.{ne-eqb, le-ltb, lt-ltb}
 use lib.Seq.{slice}
 use Rattle.columns.specs.declared.column.Column.{Column}
+use Rattle.columns.specs.declared.number.Form.{Form}
+use Rattle.columns.specs.declared.group.Group.{Group}
 use Rattle.columns.specs.Answer.{pick}
-use Rattle.columns.specs.Column.{Slot, missing, given, Range, span, Col, integer, decimal, text, letter, clock, separator, width, slots, texts, goodCol, good, widths, allSlots, allTexts}
-use Rattle.columns.specs.Table.{rangeOf, colOf, columnAt, columnsOf, slotsBy, textsBy, slotOf, slotsOf, flagOf, valueOf, flagsOf, valuesOf, Table}
+use Rattle.columns.specs.Number.{formWidth, goodForm}
+use Rattle.columns.specs.Column.{Slot, missing, given, Range, Rule, Col, numeric, text, letter, group, blank, width, slots, texts, goodGroup, goodCol, good, widths, allSlots, allTexts}
+use Rattle.columns.specs.Table.{columnIn, rangeAt, ruleAt, groupAt, formIn, colOf, columnsOf, widthBy, slotsBy, textsBy, slotOf, slotsOf, flagOf, valueOf, flagsOf, valuesOf, Table}
 use Rattle.columns.proofs.laws.Tests.{T-and}
+use Rattle.columns.specs.declared.number.Form.the-variants as N
 
 -- ---- columns by their kind
 
-module _ (c : Column) (ls : List ℕ) where
-  pub col-int : c .kind ≡ 0 → colOf c ls ≡ integer (c .width) (eqb (c .b) 1) (rangeOf (c .a) (c .low) (c .high))
-  col-int e = rw e
+module _ (c : Column) (rs : List ℤ) (ls : List ℕ) where
+  pub col-number : c .kind < 2 → colOf c rs ls ≡ numeric (formIn c) (c .required) (rangeAt rs (c .last))
+  col-number h = rw (lt-ltb _ _ h)
 
-  pub col-dec : c .kind ≡ 1 → colOf c ls ≡ decimal (c .width) (c .a) (eqb (c .b) 1) (span (c .low) (c .high))
-  col-dec e = rw e
+  pub col-integer : c .kind ≡ 0 → colOf c rs ls ≡ numeric (N.Integer (c .width)) (c .required) (rangeAt rs (c .last))
+  col-integer e = rw e
 
-  pub col-text : c .kind ≡ 2 → colOf c ls ≡ text (c .width) (eqb (c .b) 1) (eqb (c .a) 1)
+  pub col-decimal : c .kind ≡ 1 → colOf c rs ls ≡ numeric (N.Decimal (c .width) (c .place)) (c .required) (rangeAt rs (c .last))
+  col-decimal e = rw e
+
+  pub col-text : c .kind ≡ 2 → colOf c rs ls ≡ text (c .width) (ruleAt (c .last))
   col-text e = rw e
 
-  pub col-letter : c .kind ≡ 3 → colOf c ls ≡ letter (slice (c .a) (c .a + c .b) ls)
+  pub col-letter : c .kind ≡ 3 → colOf c rs ls ≡ letter (slice (c .place) (c .place + c .last) ls)
   col-letter e = rw e
 
-  pub col-clock : c .kind ≡ 4 → colOf c ls ≡ clock
-  col-clock e = rw e
+  pub col-group : c .kind ≡ 4 → colOf c rs ls ≡ group (groupAt (c .last))
+  col-group e = rw e
 
-  pub col-separator : 5 ≤ c .kind → colOf c ls ≡ separator
-  col-separator h =
-      rw (ne-eqb (c .kind) 0 (λ e. omega arith), ne-eqb (c .kind) 1 (λ e. omega arith), ne-eqb (c .kind) 2 (λ e. omega arith), ne-eqb (c .kind) 3 (λ e. omega arith), ne-eqb (c .kind) 4 (λ e. omega arith))
+  pub col-blank : 5 ≤ c .kind → colOf c rs ls ≡ blank (c .width)
+  col-blank h =
+      let a : 2 ≤ c .kind = omega arith in
+      rw (le-ltb _ _ a, ne-eqb (c .kind) 2 (λ e. omega arith), ne-eqb (c .kind) 3 (λ e. omega arith), ne-eqb (c .kind) 4 (λ e. omega arith))
 
-pub good-int : (w : ℕ) (q : Bool) (g : Range) (c : Col) → c ≡ integer w q g → T (goodCol c) → (1 ≤ w) × (w ≤ 18)
-good-int w q r c e g =
-    let h : T (leb 1 w && leb w 18) = rw e at g in
-    let p = T-and (leb 1 w) (leb w 18) h in
-    (leb→le 1 w (p .0), leb→le w 18 (p .1))
+pub form-int : (c : Column) → c .kind ≡ 0 → formIn c ≡ N.Integer (c .width)
+form-int c e = rw e
 
-pub good-dec : (w d : ℕ) (q : Bool) (g : Range) (c : Col) → c ≡ decimal w d q g → T (goodCol c) → (d + 3 ≤ w) × (w ≤ 18)
-good-dec w d q r c e g =
-    let h : T (leb (d + 3) w && leb w 18) = rw e at g in
-    let p = T-and (leb (d + 3) w) (leb w 18) h in
-    (leb→le (d + 3) w (p .0), leb→le w 18 (p .1))
+pub form-dec : (c : Column) → (c .kind ≡ 0 → ⊥) → formIn c ≡ N.Decimal (c .width) (c .place)
+form-dec c n = rw (ne-eqb (c .kind) 0 n)
 
-pub good-text : (w : ℕ) (q x : Bool) (c : Col) → c ≡ text w q x → T (goodCol c) → 1 ≤ w
-good-text w q x c e g = let h : T (leb 1 w) = rw e at g in leb→le 1 w h
+pub good-number : (c : Col) (m : Form) (q : Bool) (g : Range) → c ≡ numeric m q g → T (goodCol c) → T (goodForm m)
+good-number c m q g e o = rw e at o
+
+pub good-text : (w : ℕ) (x : Rule) (c : Col) → c ≡ text w x → T (goodCol c) → 1 ≤ w
+good-text w x c e g = let h : T (leb 1 w) = rw e at g in leb→le 1 w h
+
+pub good-of-group : (g : Group) (c : Col) → c ≡ group g → T (goodCol c) → T (goodGroup g)
+good-of-group g c e o = rw e at o
+
+-- every group of the table is well-formed
+pub group-good : (k : ℕ) → T (goodGroup (groupAt k))
+group-good k = tt
 
 pub data Kind (k : ℕ) : Type 0 where
-  is-int : k ≡ 0 → Kind k
-  is-dec : k ≡ 1 → Kind k
+  is-number : k < 2 → Kind k
   is-text : k ≡ 2 → Kind k
   is-letter : k ≡ 3 → Kind k
-  is-clock : k ≡ 4 → Kind k
-  is-separator : 5 ≤ k → Kind k
+  is-group : k ≡ 4 → Kind k
+  is-blank : 5 ≤ k → Kind k
 
 pub kind-of : (k : ℕ) → Kind k
-kind-of zero = is-int refl
-kind-of (suc zero) = is-dec refl
+kind-of zero = is-number (omega arith)
+kind-of (suc zero) = is-number (omega arith)
 kind-of (suc (suc zero)) = is-text refl
 kind-of (suc (suc (suc zero))) = is-letter refl
-kind-of (suc (suc (suc (suc zero)))) = is-clock refl
-kind-of (suc (suc (suc (suc (suc k))))) = is-separator (omega arith)
+kind-of (suc (suc (suc (suc zero)))) = is-group refl
+kind-of (suc (suc (suc (suc (suc k))))) = is-blank (omega arith)
 
 -- ---- what a column takes, as the code counts it
 
-pub record Sizes (c : Column) (ls : List ℕ) : Type 0 where
-  pub wide : width (colOf c ls) ≡ c .width
-  pub numbers : slots (colOf c ls) ≡ slotsBy (c .kind)
-  pub chars : texts (colOf c ls) ≡ textsBy (c .kind) (c .width)
+pub record Sizes (c : Column) (rs : List ℤ) (ls : List ℕ) : Type 0 where
+  pub wide : width (colOf c rs ls) ≡ widthBy c
+  pub numbers : slots (colOf c rs ls) ≡ slotsBy c
+  pub chars : texts (colOf c rs ls) ≡ textsBy c
 
-sizes-by : (c : Column) (ls : List ℕ) (x : ℕ) → c .width ≡ pick (ltb (c .kind) 3) x (pick (eqb (c .kind) 4) 12 1) → Kind (c .kind) → Sizes c ls
-sizes-by c ls x e (is-int k) = record { wide = rw (col-int c ls k); numbers = rw (col-int c ls k, k); chars = rw (col-int c ls k, k) }
-sizes-by c ls x e (is-dec k) = record { wide = rw (col-dec c ls k); numbers = rw (col-dec c ls k, k); chars = rw (col-dec c ls k, k) }
-sizes-by c ls x e (is-text k) = record { wide = rw (col-text c ls k); numbers = rw (col-text c ls k, k); chars = rw (col-text c ls k, k) }
-sizes-by c ls x e (is-letter k) =
-    let w : c .width ≡ 1 = rw k at e in
-    record { wide = rw (col-letter c ls k, w); numbers = rw (col-letter c ls k, k); chars = rw (col-letter c ls k, k, w) }
-sizes-by c ls x e (is-clock k) =
-    let w : c .width ≡ 12 = rw k at e in
-    record { wide = rw (col-clock c ls k, w); numbers = rw (col-clock c ls k, k); chars = rw (col-clock c ls k, k) }
-sizes-by c ls x e (is-separator k) =
-    let n : c .kind ≡ 4 → ⊥ = λ q. omega arith in
-    let w : c .width ≡ 1 = rw (le-ltb (c .kind) 3 (omega arith), ne-eqb (c .kind) 4 n) at e in
+form-width : (c : Column) (t : Bool) → formWidth (pick t (N.Integer (c .width)) (N.Decimal (c .width) (c .place))) ≡ c .width
+form-width c true = refl
+form-width c false = refl
+
+sizes-by : (c : Column) (rs : List ℤ) (ls : List ℕ) → Kind (c .kind) → Sizes c rs ls
+sizes-by c rs ls (is-number k) =
+    record {
+      wide = rw (col-number c rs ls k, ne-eqb (c .kind) 3 (λ e. omega arith), ne-eqb (c .kind) 4 (λ e. omega arith)) (form-width c (eqb (c .kind) 0));
+      numbers = rw (col-number c rs ls k, lt-ltb _ _ k);
+      chars = rw (col-number c rs ls k, lt-ltb _ _ k);
+    }
+sizes-by c rs ls (is-text k) = record { wide = rw (col-text c rs ls k, k); numbers = rw (col-text c rs ls k, k); chars = rw (col-text c rs ls k, k) }
+sizes-by c rs ls (is-letter k) = record { wide = rw (col-letter c rs ls k, k); numbers = rw (col-letter c rs ls k, k); chars = rw (col-letter c rs ls k, k) }
+sizes-by c rs ls (is-group k) = record { wide = rw (col-group c rs ls k, k); numbers = rw (col-group c rs ls k, k); chars = rw (col-group c rs ls k, k) }
+sizes-by c rs ls (is-blank k) =
     let a : 2 ≤ c .kind = omega arith in
     let b : 4 ≤ c .kind = omega arith in
-    record { wide = rw (col-separator c ls k, w); numbers = rw (col-separator c ls k, le-ltb _ _ a, ne-eqb (c .kind) 4 n); chars = rw (col-separator c ls k, le-ltb _ _ a, le-ltb _ _ b) }
+    record {
+      wide = rw (col-blank c rs ls k, ne-eqb (c .kind) 3 (λ e. omega arith), ne-eqb (c .kind) 4 (λ e. omega arith));
+      numbers = rw (col-blank c rs ls k, le-ltb _ _ a, ne-eqb (c .kind) 4 (λ e. omega arith));
+      chars = rw (col-blank c rs ls k, le-ltb _ _ a, le-ltb _ _ b);
+    }
 
-pub sizes : (s : List ℕ) (r : List ℤ) (ls : List ℕ) (i : ℕ) → Sizes (columnAt s r i) ls
-sizes s r ls i = sizes-by (columnAt s r i) ls (getD s (i * 4 + 1) 0) refl (kind-of (getD s (i * 4) 0))
+pub sizes : (c : Column) (rs : List ℤ) (ls : List ℕ) → Sizes c rs ls
+sizes c rs ls = sizes-by c rs ls (kind-of (c .kind))
 
-number-by : (c : Column) (ls : List ℕ) → c .kind < 2 → Kind (c .kind) → (colOf c ls ≡ colOf c []) × ((slots (colOf c ls) ≡ 1) × (texts (colOf c ls) ≡ 0))
-number-by c ls h (is-int k) = (col-int c ls k ∙ sym (col-int c [] k), (rw (col-int c ls k), rw (col-int c ls k)))
-number-by c ls h (is-dec k) = (col-dec c ls k ∙ sym (col-dec c [] k), (rw (col-dec c ls k), rw (col-dec c ls k)))
-number-by c ls h (is-text k) = let y : ⊥ = omega arith in absurd y
-number-by c ls h (is-letter k) = let y : ⊥ = omega arith in absurd y
-number-by c ls h (is-clock k) = let y : ⊥ = omega arith in absurd y
-number-by c ls h (is-separator k) = let y : ⊥ = omega arith in absurd y
+-- a number's column knows no letters, text and letters no ranges
+pub number-col : (c : Column) (rs : List ℤ) (ls : List ℕ) → c .kind < 2 → (colOf c rs ls ≡ colOf c rs []) × ((slots (colOf c rs ls) ≡ 1) × (texts (colOf c rs ls) ≡ 0))
+number-col c rs ls h = (col-number c rs ls h ∙ sym (col-number c rs [] h), (rw (col-number c rs ls h), rw (col-number c rs ls h)))
 
--- a number's column knows no letters
-pub number-col : (c : Column) (ls : List ℕ) → c .kind < 2 → (colOf c ls ≡ colOf c []) × ((slots (colOf c ls) ≡ 1) × (texts (colOf c ls) ≡ 0))
-number-col c ls h = number-by c ls h (kind-of (c .kind))
+char-by : (c : Column) (rs : List ℤ) (ls : List ℕ) → 2 ≤ c .kind → c .kind < 4 → Kind (c .kind) → (colOf c rs ls ≡ colOf c [] ls) × ((slots (colOf c rs ls) ≡ 0) × (texts (colOf c rs ls) ≡ width (colOf c rs ls)))
+char-by c rs ls g h (is-number k) = let y : ⊥ = omega arith in absurd y
+char-by c rs ls g h (is-text k) = (col-text c rs ls k ∙ sym (col-text c [] ls k), (rw (col-text c rs ls k), rw (col-text c rs ls k)))
+char-by c rs ls g h (is-letter k) = (col-letter c rs ls k ∙ sym (col-letter c [] ls k), (rw (col-letter c rs ls k), rw (col-letter c rs ls k)))
+char-by c rs ls g h (is-group k) = let y : ⊥ = omega arith in absurd y
+char-by c rs ls g h (is-blank k) = let y : ⊥ = omega arith in absurd y
 
-char-by : (c : Column) (ls : List ℕ) → 2 ≤ c .kind → c .kind < 4 → Kind (c .kind) → (slots (colOf c ls) ≡ 0) × (texts (colOf c ls) ≡ width (colOf c ls))
-char-by c ls g h (is-int k) = let y : ⊥ = omega arith in absurd y
-char-by c ls g h (is-dec k) = let y : ⊥ = omega arith in absurd y
-char-by c ls g h (is-text k) = (rw (col-text c ls k), rw (col-text c ls k))
-char-by c ls g h (is-letter k) = (rw (col-letter c ls k), rw (col-letter c ls k))
-char-by c ls g h (is-clock k) = let y : ⊥ = omega arith in absurd y
-char-by c ls g h (is-separator k) = let y : ⊥ = omega arith in absurd y
-
-pub char-col : (c : Column) (ls : List ℕ) → 2 ≤ c .kind → c .kind < 4 → (slots (colOf c ls) ≡ 0) × (texts (colOf c ls) ≡ width (colOf c ls))
-char-col c ls g h = char-by c ls g h (kind-of (c .kind))
+pub char-col : (c : Column) (rs : List ℤ) (ls : List ℕ) → 2 ≤ c .kind → c .kind < 4 → (colOf c rs ls ≡ colOf c [] ls) × ((slots (colOf c rs ls) ≡ 0) × (texts (colOf c rs ls) ≡ width (colOf c rs ls)))
+char-col c rs ls g h = char-by c rs ls g h (kind-of (c .kind))
 
 -- ---- the columns from a place on
 
-pub columns-more : (s : List ℕ) (r : List ℤ) (ls : List ℕ) (i n : ℕ) → i < n → columnsOf s r ls i (n - i) ≡ colOf (columnAt s r i) ls ∷ columnsOf s r ls (i + 1) (n - (i + 1))
+pub columns-more : (s : List ℕ) (r : List ℤ) (ls : List ℕ) (i n : ℕ) → i < n → columnsOf s r ls i (n - i) ≡ colOf (columnIn (getD s i 0)) r ls ∷ columnsOf s r ls (i + 1) (n - (i + 1))
 unfolding columnsOf
 columns-more s r ls i n h = let z : n - i ≡ suc (n - (i + 1)) = omega arith in rw z
 
@@ -172,9 +180,6 @@ pub values-append : (a b : List Slot) → valuesOf (a ++ b) ≡ valuesOf a ++ va
 unfolding valuesOf
 values-append [] b = refl
 values-append (x ∷ a) b = rw (values-append a b)
-
-pub row-sizes : (s : List ℕ) (r : List ℤ) (ls : List ℕ) (i : ℕ) (c : Column) → c ≡ columnAt s r i → Sizes c ls
-row-sizes s r ls i c e = rw e (sizes s r ls i)
 
 -- ---- the places of the first column, and of those after it
 

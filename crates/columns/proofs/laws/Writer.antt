@@ -1,25 +1,26 @@
 -- Laws of the table's writer: one column as the code comes to it, and the turns of its loop.
 use mathlib.Core.Path.{_≡_, refl, sym, ap, _∙_}
-use mathlib.Core.Bool.{Bool, false, _&&_}
+use mathlib.Core.Bool.{Bool, true, false, false≢true}
 use mathlib.Core.List.{List, [], _∷_, _++_, append-assoc, append-nil}
 use Prim.Native.Nat.{ℕ, _+_, _-_, _≤_, _<_}
 use native.Mathlib.Omega.{arith}
-use lib.ListN.{length, take, drop, getD, length-append, length-drop}
+use lib.ListN.{length, take, drop, getD, replicate, length-append, length-drop}
 use lib.Dec.{eqb, T}
 use lib.IntN.{ℤ}
-use borrow.Author.Tests.{le-ltb, lt-ltb}
+use borrow.Author.Tests.{le-ltb, lt-ltb, ne-eqb, eq-eqb, eqb-true, eqb-false}
 use lib.Seq.{length-take-le, drop-drop, take-add, drop-cons, getD-take, getD-drop}
 use borrow.Rule.Slice.PartMut.{midOf, putMid, mid-len, put-same}
 use Rattle.columns.specs.declared.Outcome.{Outcome}
 use Rattle.columns.specs.declared.column.Column.{Column}
+use Rattle.columns.specs.declared.number.Form.{Form}
 use Rattle.columns.specs.Answer.{pick, Answer, ok, refusal, both, requiredBlank, wrongLetter, tooShort}
 use Rattle.columns.specs.Bytes.{member}
-use Rattle.columns.specs.Number.{holdsInt, holdsDec, intBytes, decBytes}
-use Rattle.columns.specs.Column.{Slot, missing, Range, allowed, Col, integer, decimal, text, letter, separator, width, slots, texts, good, widths, allSlots, allTexts}
-use Rattle.columns.specs.Clock.{putClock}
+use Rattle.columns.specs.Column.{Slot, missing, Range, allowed, Rule, anyText, noBrackets, notBlankFirst, ruleBars, Col, numeric, text, letter, blank, width, slots, texts, good, widths, allSlots, allTexts}
+use Rattle.columns.specs.Group.{putGroup}
+use Rattle.columns.specs.Reading.{judgeText}
 use Rattle.columns.specs.Writing.{putNumber, putText, writeCell, writeColumns, writeLine, writePart}
-use Rattle.columns.specs.Table.{colOf, columnAt, columnsOf, over, outcomeOf, Wrote, WrotePart, Ready, Table, placed}
-use Rattle.columns.proofs.laws.Table.{Kind, kind-of, is-int, is-dec, is-text, is-letter, is-clock, is-separator, col-text, col-letter, col-clock, col-separator, number-col, char-col, columns-more, columns-none, table-good, table-fits, table-low, table-numbers, table-chars, table-line, table-next}
+use Rattle.columns.specs.Table.{columnIn, ruleAt, groupAt, colOf, columnsOf, over, outcomeOf, Wrote, WrotePart, Ready, Table, placed}
+use Rattle.columns.proofs.laws.Table.{Kind, kind-of, is-number, is-text, is-letter, is-group, is-blank, col-text, col-letter, col-group, col-blank, number-col, char-col, columns-more, columns-none, table-good, table-fits, table-low, table-numbers, table-chars, table-line, table-next}
 use Rattle.columns.proofs.laws.Answers.{split, over-whole, refused-of, done-of, wrote-refused, wrote-same, wrote-bytes, wrote-whole}
 use Rattle.columns.proofs.laws.Places.{placed-none, placed-length, placed-placed, placed-take, part-placed}
 use Rattle.columns.proofs.laws.Columns.{cell-written, columns-size}
@@ -28,60 +29,75 @@ use Rattle.columns.specs.declared.Outcome.the-variants as O
 -- ---- the answer of each kind of column
 
 module _ (seen : List Slot) (at : ℕ) (ns : List Slot) (t : List ℕ) (c : Col) where
-  pub cell-int : (w : ℕ) (q : Bool) (g : Range) → c ≡ integer w q g → putNumber w q (allowed g seen) at (holdsInt w) (intBytes w) (getD ns 0 missing) ≡ writeCell c seen at ns t
+  pub cell-number : (m : Form) (q : Bool) (g : Range) → c ≡ numeric m q g → putNumber m q (allowed g seen) at (getD ns 0 missing) ≡ writeCell c seen at ns t
   unfolding writeCell
-  cell-int w q g e = rw e
+  cell-number m q g e = rw e
 
-  pub cell-dec : (w d : ℕ) (q : Bool) (g : Range) → c ≡ decimal w d q g → putNumber w q (allowed g seen) at (holdsDec w) (decBytes w d) (getD ns 0 missing) ≡ writeCell c seen at ns t
+  pub cell-text : (w : ℕ) (x : Rule) → c ≡ text w x → judgeText x at t (putText (ruleBars x) at t (ok t)) ≡ writeCell c seen at ns t
   unfolding writeCell
-  cell-dec w d q g e = rw e
-
-  pub cell-text : (w : ℕ) (q x : Bool) → c ≡ text w q x → pick (q && eqb (getD t 0 0) 32) (refusal requiredBlank (at + 1)) (putText x at t (ok t)) ≡ writeCell c seen at ns t
-  unfolding writeCell
-  cell-text w q x e = rw e
+  cell-text w x e = rw e
 
   pub cell-letter : (s : List ℕ) → c ≡ letter s → putText false at t (pick (member (getD t 0 0) s) (ok t) (refusal wrongLetter (at + 1))) ≡ writeCell c seen at ns t
   unfolding writeCell
   cell-letter s e = rw e
 
-  cell-separator : c ≡ separator → ok (32 ∷ []) ≡ writeCell c seen at ns t
+  cell-blank : (w : ℕ) → c ≡ blank w → ok (replicate w 32) ≡ writeCell c seen at ns t
   unfolding writeCell
-  cell-separator e = rw e
+  cell-blank w e = rw e
+
+-- text by the number of its rule, as the code comes to it
+module _ (k at : ℕ) (t : List ℕ) where
+  low-rule : (a b : Bool) → (a ≡ false → b ≡ true) → (b ≡ true → a ≡ false) → putText b at t (ok t) ≡ judgeText (pick a anyText (pick b noBrackets notBlankFirst)) at t (putText (ruleBars (pick a anyText (pick b noBrackets notBlankFirst))) at t (ok t))
+  low-rule true true f g = absurd (false≢true (sym (g refl)))
+  low-rule true false f g = refl
+  low-rule false true f g = refl
+  low-rule false false f g = absurd (false≢true (f refl))
+
+  pub rule-low : k < 2 → putText (eqb k 1) at t (ok t) ≡ judgeText (ruleAt k) at t (putText (ruleBars (ruleAt k)) at t (ok t))
+  rule-low h = low-rule (eqb k 0) (eqb k 1) (λ e. eq-eqb k 1 (omega (arith, eqb-false k 0 e))) (λ e. ne-eqb k 0 (λ q. omega (arith, eqb-true k 1 e)))
+
+  module _ (h : 2 ≤ k) where
+    pub rule-blank : getD t 0 0 ≡ 32 → judgeText (ruleAt k) at t (putText (ruleBars (ruleAt k)) at t (ok t)) ≡ refusal requiredBlank (at + 1)
+    rule-blank e = rw (ne-eqb k 0 (λ q. omega arith), ne-eqb k 1 (λ q. omega arith), e)
+
+    pub rule-there : (getD t 0 0 ≡ 32 → ⊥) → putText false at t (ok t) ≡ judgeText (ruleAt k) at t (putText (ruleBars (ruleAt k)) at t (ok t))
+    rule-there n = rw (ne-eqb k 0 (λ q. omega arith), ne-eqb k 1 (λ q. omega arith), ne-eqb _ _ n)
 
 -- ---- a column at its places of the record
 
-blind : (c : Column) (ls : List ℕ) (a b : List Slot) (at : ℕ) (ns : List Slot) (t : List ℕ) → 2 ≤ c .kind → Kind (c .kind) → writeCell (colOf c ls) a at ns t ≡ writeCell (colOf c ls) b at ns t
+blind : (c : Column) (rs : List ℤ) (ls : List ℕ) (a b : List Slot) (at : ℕ) (ns : List Slot) (t : List ℕ) → 2 ≤ c .kind → c .kind < 4 → Kind (c .kind) → writeCell (colOf c rs ls) a at ns t ≡ writeCell (colOf c rs ls) b at ns t
 unfolding writeCell
-blind c ls a b at ns t h (is-int k) = let y : ⊥ = omega arith in absurd y
-blind c ls a b at ns t h (is-dec k) = let y : ⊥ = omega arith in absurd y
-blind c ls a b at ns t h (is-text k) = rw (col-text c ls k)
-blind c ls a b at ns t h (is-letter k) = rw (col-letter c ls k)
-blind c ls a b at ns t h (is-clock k) = rw (col-clock c ls k)
-blind c ls a b at ns t h (is-separator k) = rw (col-separator c ls k)
+blind c rs ls a b at ns t h l (is-number k) = let y : ⊥ = omega arith in absurd y
+blind c rs ls a b at ns t h l (is-text k) = rw (col-text c rs ls k)
+blind c rs ls a b at ns t h l (is-letter k) = rw (col-letter c rs ls k)
+blind c rs ls a b at ns t h l (is-group k) = let y : ⊥ = omega arith in absurd y
+blind c rs ls a b at ns t h l (is-blank k) = let y : ⊥ = omega arith in absurd y
 
 take-one : (S : List Slot) (k : ℕ) → k < length S → take 1 (drop k S) ≡ getD S k missing ∷ []
 take-one S k h = rw (drop-cons S k missing h)
 
-module _ (c : Column) (ls : List ℕ) (at k t : ℕ) (S : List Slot) (chs : List ℕ) where
-  pub at-number : c .kind < 2 → k < length S → (x : Slot) → getD S k missing ≡ x → writeCell (colOf c []) (take k S) at (x ∷ []) [] ≡ writeCell (colOf c ls) (take k S) at (take (slots (colOf c ls)) (drop k S)) (take (texts (colOf c ls)) (drop t chs))
+module _ (c : Column) (rs : List ℤ) (ls : List ℕ) (at k t : ℕ) (S : List Slot) (chs : List ℕ) where
+  pub at-number : c .kind < 2 → k < length S → (x : Slot) → getD S k missing ≡ x → writeCell (colOf c rs []) (take k S) at (x ∷ []) [] ≡ writeCell (colOf c rs ls) (take k S) at (take (slots (colOf c rs ls)) (drop k S)) (take (texts (colOf c rs ls)) (drop t chs))
   at-number h g x e =
-      let n = number-col c ls h in
+      let n = number-col c rs ls h in
       rw (n .1 .0, n .1 .1, n .0, take-one S k g, e)
 
-  pub at-chars : 2 ≤ c .kind → c .kind < 4 → (ys : List ℕ) → ys ≡ take (texts (colOf c ls)) (drop t chs) → writeCell (colOf c ls) [] at [] ys ≡ writeCell (colOf c ls) (take k S) at (take (slots (colOf c ls)) (drop k S)) (take (texts (colOf c ls)) (drop t chs))
-  at-chars g h ys e = rw (char-col c ls g h .0, ← e) (blind c ls [] (take k S) at [] ys g (kind-of (c .kind)))
+  pub at-chars : 2 ≤ c .kind → c .kind < 4 → (ys : List ℕ) → ys ≡ take (texts (colOf c rs ls)) (drop t chs) → writeCell (colOf c [] ls) [] at [] ys ≡ writeCell (colOf c rs ls) (take k S) at (take (slots (colOf c rs ls)) (drop k S)) (take (texts (colOf c rs ls)) (drop t chs))
+  at-chars g h ys e =
+      let n = char-col c rs ls g h in
+      rw (n .1 .0, ← e, ← n .0) (blind c rs ls [] (take k S) at [] ys g h (kind-of (c .kind)))
 
-  pub at-clock : c .kind ≡ 4 → putClock at (getD S k missing) (getD S (k + 1) missing) (getD S (k + 2) missing) ≡ writeCell (colOf c ls) (take k S) at (take (slots (colOf c ls)) (drop k S)) (take (texts (colOf c ls)) (drop t chs))
+  pub at-group : c .kind ≡ 4 → putGroup (groupAt (c .last)) (take k S) at (getD S k missing) (getD S (k + 1) missing) (getD S (k + 2) missing) ≡ writeCell (colOf c rs ls) (take k S) at (take (slots (colOf c rs ls)) (drop k S)) (take (texts (colOf c rs ls)) (drop t chs))
   unfolding writeCell
-  at-clock h =
+  at-group h =
       let z : k + 0 ≡ k = omega arith in
       let a : getD (take 3 (drop k S)) 0 missing ≡ getD S k missing = getD-take 3 (drop k S) 0 missing (omega arith) ∙ getD-drop k S 0 missing ∙ rw z in
       let b : getD (take 3 (drop k S)) 1 missing ≡ getD S (k + 1) missing = getD-take 3 (drop k S) 1 missing (omega arith) ∙ getD-drop k S 1 missing in
       let d : getD (take 3 (drop k S)) 2 missing ≡ getD S (k + 2) missing = getD-take 3 (drop k S) 2 missing (omega arith) ∙ getD-drop k S 2 missing in
-      rw (col-clock c ls h, a, b, d)
+      rw (col-group c rs ls h, a, b, d)
 
-  pub at-separator : 5 ≤ c .kind → ok (32 ∷ []) ≡ writeCell (colOf c ls) (take k S) at (take (slots (colOf c ls)) (drop k S)) (take (texts (colOf c ls)) (drop t chs))
-  at-separator h = cell-separator (take k S) at _ _ (colOf c ls) (col-separator c ls h)
+  pub at-blank : 5 ≤ c .kind → ok (replicate (c .width) 32) ≡ writeCell (colOf c rs ls) (take k S) at (take (slots (colOf c rs ls)) (drop k S)) (take (texts (colOf c rs ls)) (drop t chs))
+  at-blank h = cell-blank (take k S) at _ _ (colOf c rs ls) (c .width) (col-blank c rs ls h)
 
 -- ---- lines in two parts
 
@@ -200,7 +216,7 @@ module _ {cs : List Col} {start : ℕ} {S : List Slot} {chs out₀ : List ℕ} {
 
 module _ (s : List ℕ) (r : List ℤ) (ls : List ℕ) (i n : ℕ) {cs : List Col} {start : ℕ} {S : List Slot} {chs out₀ : List ℕ} {nv : ℕ} {at k t : ℕ} {out : List ℕ} where
   -- the next row of the table
-  pub going-row : (row : Column) → i < n → row ≡ columnAt s r i → Going cs start S chs out₀ nv (columnsOf s r ls i (n - i)) at k t out → Going cs start S chs out₀ nv (colOf row ls ∷ columnsOf s r ls (i + 1) (n - (i + 1))) at k t out
+  pub going-row : (row : Column) → i < n → row ≡ columnIn (getD s i 0) → Going cs start S chs out₀ nv (columnsOf s r ls i (n - i)) at k t out → Going cs start S chs out₀ nv (colOf row r ls ∷ columnsOf s r ls (i + 1) (n - (i + 1))) at k t out
   going-row row h e g = rw (e, ← columns-more s r ls i n h) g
 
   pub going-last : n ≤ i → Going cs start S chs out₀ nv (columnsOf s r ls i (n - i)) at k t out → Going cs start S chs out₀ nv [] at k t out

@@ -7,20 +7,16 @@ use native.Mathlib.Omega.{arith}
 use lib.Dec.{eqb}
 use lib.ListN.{length, take, drop, getD}
 use borrow.Author.Tests.{eq-eqb, ne-eqb, le-ltb, lt-ltb}
-use Rattle.columns.specs.Answer.{pick, Answer, ok, refusal, barredByte}
+use Rattle.columns.specs.Answer.{pick, ok, refusal, barredByte}
 use Rattle.columns.specs.Bytes.{isNone}
-use Rattle.formats.specs.Cube.{wrongLength}
-use Rattle.formats.specs.Header.{phaseHeader}
-use Rattle.formats.specs.Record.{sameBytes}
-use Rattle.formats.specs.Phase.{lowestBarredByte, phaseOf}
-use Rattle.formats.specs.Block.{isHeader, kindOf, closing, comment, phase, beforeTrimmed, trimEnd, lastByte, beginsComment, readComment, notClosed, outOfPlace}
-use Rattle.columns.specs.Column.{Rec}
-use Rattle.columns.specs.Table.{outcomeOf}
-use Rattle.formats.specs.declared.phase.PhaseRead.{PhaseRead}
-use Rattle.formats.specs.declared.phase.Phase.the-variants as P
+use Rattle.columns.specs.Answer.{wrongLength}
+use Rattle.columns.specs.Bytes.{sameBytes}
+use Rattle.formats.specs.Row.{lowestBarredByte}
+use Rattle.formats.specs.Block.{isHeader, kindOf, closing, comment, row, beforeTrimmed, trimEnd, lastByte, beginsComment, readComment, notClosed, outOfPlace}
+use Rattle.columns.specs.Table.{outcomeOf, over}
 use Rattle.columns.specs.declared.Outcome.the-variants as O
-use Rattle.formats.proofs.laws.PhaseRecord.{was-phase, was-no-phase}
-use Rattle.formats.proofs.laws.Cube.{differs-not, differs-is}
+use Rattle.columns.proofs.laws.Answers.{differs-not, differs-is}
+use Rattle.formats.proofs.laws.RowRecord.{over-part}
 
 -- ---- trailing blanks, one byte at the end at a time
 
@@ -117,14 +113,6 @@ module _ (l : List ℕ) where
   pub begins-blank : getD l 0 0 ≡ 32 → beginsComment l ≡ eqb (getD l 1 0) 40
   begins-blank e = rw (eq-eqb (getD l 0 0) 32 e)
 
--- ---- a phase line's answer without its record
-
-pub phase-told : (a : Answer Rec) (r : PhaseRead) → r ≡ phaseOf a → r .read ≡ P.Line → O.Done ≡ outcomeOf a
-phase-told a r e q = rw (was-phase a r e q .is)
-
-pub no-phase-told : (a : Answer Rec) (r : PhaseRead) (n k : ℕ) → r ≡ phaseOf a → r .read ≡ P.Refused n k → O.Refused n k ≡ outcomeOf a
-no-phase-told a r n k e q = rw (was-no-phase a r n k e q)
-
 -- ---- a line's kind, as the code comes to it
 
 some-taken : (l : List ℕ) (n : ℕ) → n ≤ length l → (n ≡ 0 → ⊥) → isNone (take n l) ≡ false
@@ -143,10 +131,12 @@ module _ (l : List ℕ) (n : ℕ) (e : trimEnd l ≡ take n l) where
     pub kind-comment : beginsComment l ≡ true → kindOf l ≡ comment
     kind-comment c = let t : isNone (trimEnd l) ≡ false = trimmed-some l n e h z in rw (t, c)
 
-    pub kind-phase : beginsComment l ≡ false → kindOf l ≡ phase
-    kind-phase c = let t : isNone (trimEnd l) ≡ false = trimmed-some l n e h z in rw (t, c)
+    pub kind-row : beginsComment l ≡ false → kindOf l ≡ row
+    kind-row c = let t : isNone (trimEnd l) ≡ false = trimmed-some l n e h z in rw (t, c)
 
 -- ---- the header, as the code looks at it
 
-pub header-same : (l : List ℕ) (n : ℕ) (w : List ℕ) → trimEnd l ≡ take n l → w ≡ phaseHeader → sameBytes (take (n - 0) (drop 0 l)) w ≡ isHeader phaseHeader l
-header-same l n w e f = let z : n - 0 ≡ n = omega arith in rw (z, f, e)
+pub header-same : (l header : List ℕ) (n m : ℕ) (zeros w : List ℕ) → trimEnd l ≡ take n l → m ≡ length header → w ≡ over header zeros → sameBytes (take (n - 0) (drop 0 l)) (take (m - 0) (drop 0 w)) ≡ isHeader header l
+header-same l header n m zeros w e k f =
+    let z : n - 0 ≡ n = omega arith in
+    rw (z, f, over-part header zeros m (sym k), e)

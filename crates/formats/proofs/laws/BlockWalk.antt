@@ -1,131 +1,213 @@
--- Laws of walking a block: the phase lines counted, and what the line at a place is.
-use Prim.Native.Nat.{ℕ, _+_, _-_, _≤_, _<_}
-use mathlib.Core.Path.{_≡_, sym, ap, _∙_}
+-- Laws of walking a block: each answer as the code comes to it; and a walk of a block that is read meets exactly its phase lines
+-- and comments, in order, and ends where the bytes used end.
+use Prim.Native.Nat.{ℕ, zero, suc, _+_, _-_, _≤_, _<_}
+use mathlib.Core.Path.{_≡_, refl, sym, ap, _∙_}
 use mathlib.Core.Bool.{Bool, true, false}
-use mathlib.Core.List.{List, [], _∷_}
+use mathlib.Core.List.{List}
+use mathlib.Core.Logic.{inl, inr}
 use native.Mathlib.Omega.{arith}
+use lib.Dec.{ltb}
 use lib.ListN.{length, take, drop}
-use lib.Seq.{length-take-le}
-use borrow.Author.Tests.{lt-ltb, le-ltb, lt-leb, le-leb, eq-eqb, ne-eqb}
-use Rattle.formats.specs.Header.{phaseHeader}
+use borrow.Author.Tests.{lt-ltb, le-ltb, lt-leb, le-leb}
+use Rattle.columns.specs.Answer.{Answer, ok, refusal}
+use Rattle.columns.specs.Column.{Rec}
+use Rattle.columns.specs.Table.{outcomeOf}
+use Rattle.columns.specs.Answer.{wrongLength}
 use Rattle.formats.specs.Lines.{linesOf, lineEnd}
-use Rattle.formats.specs.Block.{Kind, closing, comment, phase, kindOf, isHeader}
+use Rattle.formats.specs.Block.{Kind, closing, comment, row, kindOf, isHeader, readComment, outOfPlace, plus, readLines, atMost, readBlockBy}
+use Rattle.formats.specs.BlockSteps.{counted, stepOf}
 use Rattle.formats.specs.BlockReader.{lineOf, nextOf}
-use Rattle.formats.specs.BlockWalk.{isPhase, phasesIn, phasesBefore, nothing, known, firstLine, headerLine, blockLine}
-use Rattle.formats.proofs.laws.Lines.{lines-none}
-use Rattle.formats.proofs.laws.Block.{FoundAt, line-is, lines-past, next-after}
+use Rattle.formats.specs.BlockWalk.{noLine, headerLine, phaseLine, commentLine, nothing, known, headed, firstLine, lineAfter, nextLine, Met, metAs, phasesAfter, metIn, Walked, ended, closed, aComment, aPhase, countOf, WalkedBlock}
+use Rattle.formats.proofs.laws.Lines.{lt-or-le, lines-none}
+use Rattle.formats.proofs.laws.BlockReader.{FoundAt, line-is, lines-past, next-range}
+use Rattle.formats.proofs.laws.Block.{turn-end, turn-refused, turn-closing, turn-counted, block-long, block-none, block-other, block-lines}
+use Rattle.formats.specs.declared.block_walk.BlockLine.{BlockLine}
+use Rattle.formats.specs.declared.block.Block.{Block}
+use Rattle.formats.specs.declared.block.Block.the-variants as B
+use Rattle.formats.specs.declared.block.Step.the-variants as S
 
--- ---- the phase lines from a place on, counted
+-- ---- the first line, as the code comes to it
 
-pub record Counting (b : List ℕ) (from at n : ℕ) : Type 0 where
-  pub inside : at ≤ length b
-  pub few : n ≤ at
-  pub same : phasesIn (linesOf (drop from b)) ≡ n + phasesIn (linesOf (drop at b))
-
-pub counting-start : (b : List ℕ) (from : ℕ) → from ≤ length b → Counting b from from 0
-counting-start b from h = record { inside = h; few = omega arith; same = omega arith }
-
-pub one-low : (κ : Kind) → isPhase κ ≤ 1
-one-low closing = omega arith
-one-low comment = omega arith
-one-low phase = omega arith
-
-module _ (b : List ℕ) (from at n : ℕ) (r : Counting b from at n) where
-  pub counting-end : length b ≤ at → (n ≡ phasesIn (linesOf (drop from b))) × (n ≤ length b)
-  unfolding phasesIn
-  counting-end h =
-      let none : linesOf (drop at b) ≡ [] = lines-none b at h in
-      let z : phasesIn (linesOf (drop at b)) ≡ 0 = rw none in
-      let s = r .same in
-      let i = r .inside in
-      let f = r .few in
-      (omega (arith, s, z), omega (arith, i, f))
-
-  module _ (start end next one : ℕ) (f : FoundAt b at start end next) (e : one ≡ isPhase (kindOf (take (end - start) (drop start b)))) where
-    here : one ≡ isPhase (kindOf (lineOf b at))
-    here = e ∙ ap (λ (l : List ℕ). isPhase (kindOf l)) (line-is b at start end next f)
-
-    pub one-here : one ≤ 1
-    one-here = omega (arith, here, one-low (kindOf (lineOf b at)))
-
-    pub counting-next : Counting b from next (n + one)
-    unfolding phasesIn
-    counting-next =
-        let w = next-after b at start end next f in
-        let s = r .same in
-        let d = r .few in
-        let o = one-here in
-        let t : phasesIn (linesOf (drop at b)) ≡ one + phasesIn (linesOf (drop next b)) =
-        ap phasesIn (lines-past b at (f .inside))
-        ∙ ap (λ (k : ℕ). k + phasesIn (linesOf (drop (nextOf b at) b))) (sym here)
-        ∙ ap (λ (x : ℕ). one + phasesIn (linesOf (drop x b))) (sym (f .after)) in
-        record { inside = w .1; few = omega (arith, d, o, w .0); same = omega (arith, s, t) }
-
--- ---- the phase lines before a place: those of the bytes before it, but for the header
-
-module _ (b : List ℕ) (at : ℕ) (h : at ≤ length b) where
-  abbrev pub front : List ℕ
-  front = take (at - 0) (drop 0 b)
-
-  front-is : front ≡ take at b
-  front-is = let z : at - 0 ≡ at = omega arith in rw z
-
-  front-length : length front ≡ at
-  front-length = ap length front-is ∙ length-take-le at b h
-
-  pub before-none : length front ≤ 0 → (0 ≡ phasesBefore b at) × (0 ≤ at)
-  unfolding phasesIn
-  before-none z =
-      let none : linesOf (take at b) ≡ [] = ap linesOf (sym front-is) ∙ lines-none front 0 z in
-      (sym (ap (λ (ls : List (List ℕ)). phasesIn (drop 1 ls)) none), omega arith)
-
-  pub before-some : (start end next n : ℕ) → FoundAt front 0 start end next → (n ≡ phasesIn (linesOf (drop next front))) × (n ≤ length front) → (n ≡ phasesBefore b at) × (n ≤ at)
-  before-some start end next n f e =
-      let lines : linesOf (take at b) ≡ lineOf front 0 ∷ linesOf (drop next front) =
-      ap linesOf (sym front-is) ∙ lines-past front 0 (f .inside) ∙ ap (λ (x : ℕ). lineOf front 0 ∷ linesOf (drop x front)) (sym (f .after)) in
-      let low = e .1 in
-      (e .0 ∙ sym (ap (λ (ls : List (List ℕ)). phasesIn (drop 1 ls)) lines), omega (arith, low, front-length))
-
--- ---- what the line at a place is, as the code comes to it
-
-module _ (b : List ℕ) (at : ℕ) where
-  pub walk-long : 65536 < length b → nothing ≡ blockLine b at
-  unfolding blockLine
-  walk-long h = rw (lt-ltb 65536 (length b) h)
+module _ (header b : List ℕ) where
+  pub first-long : 65536 < length b → nothing wrongLength ≡ firstLine header b
+  unfolding firstLine
+  first-long h = sym (rw (lt-ltb 65536 (length b) h))
 
   module _ (low : length b ≤ 65536) where
-    pub walk-end : length b ≤ at → nothing ≡ blockLine b at
-    unfolding blockLine
-    walk-end h = rw (le-ltb 65536 (length b) low, le-leb (length b) at h)
+    pub first-none : length b ≤ 0 → nothing outOfPlace ≡ firstLine header b
+    unfolding firstLine
+    first-none h = sym (rw (le-ltb 65536 (length b) low, le-leb (length b) 0 h))
 
-    module _ (start end next : ℕ) (f : FoundAt b at start end next) where
-      after-header : (at ≡ 0 → ⊥) → blockLine b at ≡ known (kindOf (lineOf b at)) (phasesBefore b at) (lineEnd b at) (nextOf b at)
-      unfolding blockLine
-      after-header n = rw (le-ltb 65536 (length b) low, lt-leb (length b) at (f .inside), ne-eqb at 0 n)
+    first-is : 0 < length b → firstLine header b ≡ headed header b
+    unfolding firstLine
+    first-is h = rw (le-ltb 65536 (length b) low, lt-leb (length b) 0 h)
 
-      pub walk-known : (at ≡ 0 → ⊥) → (n : ℕ) → n ≡ phasesBefore b at → known (kindOf (take (end - start) (drop start b))) n end next ≡ blockLine b at
-      walk-known z n e =
-          let l : take (end - start) (drop start b) ≡ lineOf b at = line-is b at start end next f in
-          ap (λ (x : List ℕ). known (kindOf x) n end next) l
-          ∙ ap (λ (x : ℕ). known (kindOf (lineOf b at)) x end next) e
-          ∙ ap (λ (x : ℕ). known (kindOf (lineOf b at)) (phasesBefore b at) x next) (f .ends)
-          ∙ ap (known (kindOf (lineOf b at)) (phasesBefore b at) (lineEnd b at)) (f .after)
-          ∙ sym (after-header z)
+    module _ (start end next : ℕ) (f : FoundAt b 0 start end next) (t : Bool) (e : t ≡ isHeader header (take (end - start) (drop start b))) where
+      header-here : t ≡ isHeader header (lineOf b 0)
+      header-here = e ∙ ap (isHeader header) (line-is b 0 start end next f)
 
-      at-header : at ≡ 0 → blockLine b at ≡ firstLine b
-      unfolding blockLine
-      at-header z = rw (le-ltb 65536 (length b) low, lt-leb (length b) at (f .inside), eq-eqb at 0 z)
+      pub first-header : t ≡ true → record { kind = headerLine; phase = 0; end = end; next = next } ≡ firstLine header b
+      first-header h =
+          let u : isHeader header (lineOf b 0) ≡ true = sym header-here ∙ h in
+          sym (first-is (f .inside) ∙ rw (u, f .ends, f .after))
 
-      module _ (z : at ≡ 0) (t : Bool) (e : t ≡ isHeader phaseHeader (take (end - start) (drop start b))) where
-        header-here : t ≡ isHeader phaseHeader (lineOf b 0)
-        header-here = e ∙ ap (isHeader phaseHeader) (line-is b at start end next f ∙ ap (lineOf b) z)
+      pub first-other : t ≡ false → nothing outOfPlace ≡ firstLine header b
+      first-other h = let u : isHeader header (lineOf b 0) ≡ false = sym header-here ∙ h in sym (first-is (f .inside) ∙ rw u)
 
-        pub walk-header : t ≡ true → record { kind = headerLine; phase = 0; end = end; next = next } ≡ blockLine b at
-        walk-header h =
-            let u : isHeader phaseHeader (lineOf b 0) ≡ true = sym header-here ∙ h in
-            let x : end ≡ lineEnd b 0 = f .ends ∙ ap (lineEnd b) z in
-            let y : next ≡ nextOf b 0 = f .after ∙ ap (nextOf b) z in
-            sym (at-header z ∙ rw (u, x, y))
+-- ---- the line after one that was met, as the code comes to it
 
-        pub walk-other : t ≡ false → nothing ≡ blockLine b at
-        walk-other h = let u : isHeader phaseHeader (lineOf b 0) ≡ false = sym header-here ∙ h in sym (at-header z ∙ rw u)
+module _ (b : List ℕ) (at n : ℕ) where
+  pub after-many : 65534 < n → nothing noLine ≡ lineAfter b at n
+  after-many h = sym (rw (lt-ltb 65534 n h))
+
+  module _ (few : n ≤ 65534) where
+    pub after-end : length b ≤ at → nothing noLine ≡ lineAfter b at n
+    after-end h = sym (rw (le-ltb 65534 n few, le-leb (length b) at h))
+
+    after-is : at < length b → lineAfter b at n ≡ known (kindOf (lineOf b at)) n (lineEnd b at) (nextOf b at)
+    after-is h = rw (le-ltb 65534 n few, lt-leb (length b) at h)
+
+    pub after-known : (start end next : ℕ) → FoundAt b at start end next → known (kindOf (take (end - start) (drop start b))) n end next ≡ lineAfter b at n
+    after-known start end next f =
+        ap (λ (x : List ℕ). known (kindOf x) n end next) (line-is b at start end next f)
+        ∙ sym (after-is (f .inside) ∙ rw (f .ends, f .after))
+
+after-none : (b : List ℕ) (at n : ℕ) → length b ≤ at → lineAfter b at n ≡ nothing noLine
+after-none b at n h = elim (lt-or-le 65534 n) [ inl p ↦ sym (after-many b at n p) | inr p ↦ sym (after-end b at n p h) ]
+
+module _ (b : List ℕ) (x : BlockLine) where
+  pub next-long : 65536 < length b → nothing wrongLength ≡ nextLine b x
+  unfolding nextLine
+  next-long h = sym (rw (lt-ltb 65536 (length b) h))
+
+  module _ (low : length b ≤ 65536) where
+    pub next-before : x .kind < 40 → nothing noLine ≡ nextLine b x
+    unfolding nextLine
+    next-before h = sym (rw (le-ltb 65536 (length b) low, lt-ltb (x .kind) 40 h))
+
+    module _ (h : 40 ≤ x .kind) where
+      pub next-past : 42 < x .kind → nothing noLine ≡ nextLine b x
+      unfolding nextLine
+      next-past k = sym (rw (le-ltb 65536 (length b) low, le-ltb (x .kind) 40 h, lt-ltb 42 (x .kind) k))
+
+      pub next-there : x .kind ≤ 42 → lineAfter b (x .next) (x .phase) ≡ nextLine b x
+      unfolding nextLine
+      next-there k = sym (rw (le-ltb 65536 (length b) low, le-ltb (x .kind) 40 h, le-ltb 42 (x .kind) k))
+
+-- ---- a walk of the lines from a place on
+
+-- a line from which a walk goes on, at a place of a block
+record Going (b : List ℕ) (x : BlockLine) : Type 0 where
+  from : 40 ≤ x .kind
+  to : x .kind ≤ 42
+  inside : x .next ≤ length b
+  few : x .phase < x .next
+
+abbrev metFrom : List ℕ → BlockLine → List Met
+metFrom b x = metIn (x .phase) (linesOf (drop (x .next) b))
+
+-- what the calls after x meet, with k₀ comments before them
+record Meets (b : List ℕ) (x : BlockLine) (ms : List Met) (k₀ p k u : ℕ) : Type 0 where
+  walk : Walked b x ms u
+  phases : x .phase + countOf phaseLine ms ≡ p
+  comments : k₀ + countOf commentLine ms ≡ k
+
+abbrev WalkedFrom : List ℕ → BlockLine → ℕ → ℕ → ℕ → ℕ → Type 0
+WalkedFrom b x k₀ p k u = Meets b x (metFrom b x) k₀ p k u
+
+read-parts : {p k u q j v : ℕ} → B.Read p k u ≡ B.Read q j v → (p ≡ q) × ((k ≡ j) × (u ≡ v))
+read-parts e = (cc, (cc, cc))
+
+not-refused : {n c l p k u : ℕ} → B.Refused n c l ≡ B.Read p k u → ⊥
+not-refused e = let z : _≡_ {A = ℕ} 0 1 = cc in omega arith
+
+module _ (header : List ℕ) (read : List ℕ → Answer Rec) (b : List ℕ) (low : length b ≤ 65536) where
+  abbrev answerFrom : BlockLine → ℕ → ℕ → Block
+  answerFrom x line k₀ = atMost (length b) (plus (x .phase) k₀ (x .next) (readLines read line (ltb 0 (x .phase)) (linesOf (drop (x .next) b))))
+
+  module _ (x : BlockLine) (g : Going b x) (line k₀ p k u : ℕ) (e : answerFrom x line k₀ ≡ B.Read p k u) where
+    walk-end : length b ≤ x .next → WalkedFrom b x k₀ p k u
+    unfolding metIn countOf
+    walk-end h =
+        let r = read-parts (sym (turn-end header read b (x .next) line (x .phase) k₀ (ltb 0 (x .phase)) (g .inside) h) ∙ e) in
+        let none : nextLine b x ≡ nothing noLine = sym (next-there b x low (g .from) (g .to)) ∙ after-none b (x .next) (x .phase) h in
+        rw (lines-none b (x .next) h) (record { walk = rw (← (r .1 .1)) (ended none); phases = omega (arith, r .0); comments = omega (arith, r .1 .0) })
+
+    module _ (h : x .next < length b) where
+      abbrev here : List ℕ
+      here = lineOf b (x .next)
+
+      next-is : (κ : Kind) → kindOf here ≡ κ → nextLine b x ≡ known κ (x .phase) (lineEnd b (x .next)) (nextOf b (x .next))
+      next-is κ c =
+          let few : x .phase ≤ 65534 = omega (arith, g .few, h, low) in
+          sym (next-there b x low (g .from) (g .to)) ∙ after-is b (x .next) (x .phase) few h ∙ rw c
+
+      met-is : (κ : Kind) → kindOf here ≡ κ → metFrom b x ≡ metAs κ (x .phase) here (metIn (phasesAfter κ (x .phase)) (linesOf (drop (nextOf b (x .next)) b)))
+      unfolding metIn
+      met-is κ c = rw (lines-past b (x .next) h, c)
+
+      walk-closing : kindOf here ≡ closing → WalkedFrom b x k₀ p k u
+      unfolding countOf
+      walk-closing c =
+          let r = read-parts (sym (turn-closing header read b (x .next) h line (x .phase) k₀ (ap (λ (κ : Kind). stepOf read κ (x .phase) k₀ here) c)) ∙ e) in
+          rw (met-is closing c) (record { walk = rw (← (r .1 .1)) (closed (next-is closing c)); phases = omega (arith, r .0); comments = omega (arith, r .1 .0) })
+
+      walk-refused : (n j : ℕ) → stepOf read (kindOf here) (x .phase) k₀ here ≡ S.Refused n j → ⊥
+      walk-refused n j s = not-refused (sym (turn-refused header read b (x .next) h line (x .phase) k₀ n j s) ∙ e)
+
+      walk-next : (q j : ℕ) → stepOf read (kindOf here) (x .phase) k₀ here ≡ S.Counted q j → (y : BlockLine) → y .next ≡ nextOf b (x .next) → y .phase ≡ q → answerFrom y (line + 1) j ≡ B.Read p k u
+      walk-next q j s y n m = rw (n, m) (sym (turn-counted header read b (x .next) h line (x .phase) k₀ q j s) ∙ e)
+
+      walk-comment : kindOf here ≡ comment → (a : Answer (List ℕ)) → readComment (ltb 0 (x .phase)) here ≡ a → ((y : BlockLine) → Going b y → (i j : ℕ) → x .next < y .next → answerFrom y i j ≡ B.Read p k u → WalkedFrom b y j p k u) → WalkedFrom b x k₀ p k u
+      unfolding countOf
+      walk-comment c (refusal n j) a go = absurd (walk-refused n j (ap (λ (κ : Kind). stepOf read κ (x .phase) k₀ here) c ∙ ap (λ (z : Answer (List ℕ)). counted (outcomeOf z) (x .phase) (k₀ + 1)) a))
+      walk-comment c (ok v) a go =
+          let y : BlockLine = known comment (x .phase) (lineEnd b (x .next)) (nextOf b (x .next)) in
+          let s : stepOf read (kindOf here) (x .phase) k₀ here ≡ S.Counted (x .phase) (k₀ + 1) = ap (λ (κ : Kind). stepOf read κ (x .phase) k₀ here) c ∙ ap (λ (z : Answer (List ℕ)). counted (outcomeOf z) (x .phase) (k₀ + 1)) a in
+          let r = next-range b (x .next) h in
+          let w = go y (record { from = omega arith; to = omega arith; inside = r .1; few = omega (arith, r .0, g .few) }) (line + 1) (k₀ + 1) (r .0) (walk-next (x .phase) (k₀ + 1) s y refl refl) in
+          rw (met-is comment c) (record { walk = aComment (next-is comment c) refl refl (w .walk); phases = omega (arith, w .phases); comments = omega (arith, w .comments) })
+
+      walk-row : kindOf here ≡ row → (a : Answer Rec) → read here ≡ a → ((y : BlockLine) → Going b y → (i j : ℕ) → x .next < y .next → answerFrom y i j ≡ B.Read p k u → WalkedFrom b y j p k u) → WalkedFrom b x k₀ p k u
+      unfolding countOf
+      walk-row c (refusal n j) a go = absurd (walk-refused n j (ap (λ (κ : Kind). stepOf read κ (x .phase) k₀ here) c ∙ ap (λ (z : Answer Rec). counted (outcomeOf z) (x .phase + 1) k₀) a))
+      walk-row c (ok v) a go =
+          let y : BlockLine = known row (x .phase) (lineEnd b (x .next)) (nextOf b (x .next)) in
+          let s : stepOf read (kindOf here) (x .phase) k₀ here ≡ S.Counted (x .phase + 1) k₀ = ap (λ (κ : Kind). stepOf read κ (x .phase) k₀ here) c ∙ ap (λ (z : Answer Rec). counted (outcomeOf z) (x .phase + 1) k₀) a in
+          let r = next-range b (x .next) h in
+          let w = go y (record { from = omega arith; to = omega arith; inside = r .1; few = omega (arith, r .0, g .few) }) (line + 1) k₀ (r .0) (walk-next (x .phase + 1) k₀ s y refl refl) in
+          rw (met-is row c) (record { walk = aPhase (next-is row c) refl refl (w .walk); phases = omega (arith, w .phases); comments = omega (arith, w .comments) })
+
+      walk-kind : (κ : Kind) → kindOf here ≡ κ → ((y : BlockLine) → Going b y → (i j : ℕ) → x .next < y .next → answerFrom y i j ≡ B.Read p k u → WalkedFrom b y j p k u) → WalkedFrom b x k₀ p k u
+      walk-kind closing c go = walk-closing c
+      walk-kind comment c go = walk-comment c (readComment (ltb 0 (x .phase)) here) refl go
+      walk-kind row c go = walk-row c (read here) refl go
+
+  walk-from : (fuel : ℕ) (x : BlockLine) → Going b x → (line k₀ p k u : ℕ) → length b ≤ x .next + fuel → answerFrom x line k₀ ≡ B.Read p k u → WalkedFrom b x k₀ p k u
+  walk-from zero x g line k₀ p k u m e = walk-end x g line k₀ p k u e (omega arith)
+  walk-from (suc fuel) x g line k₀ p k u m e = elim (lt-or-le (x .next) (length b)) [
+    | inl h ↦ walk-kind x g line k₀ p k u e h (kindOf (lineOf b (x .next))) refl (λ y i s j n q. walk-from fuel y i s j p k u (omega (arith, m, n)) q)
+    | inr h ↦ walk-end x g line k₀ p k u e h
+  ]
+
+-- ---- a whole block
+
+module _ (header : List ℕ) (read : List ℕ → Answer Rec) (b : List ℕ) (p k u : ℕ) (e : readBlockBy header read b ≡ B.Read p k u) where
+  walk-headed : length b ≤ 65536 → 0 < length b → (t : Bool) → isHeader header (lineOf b 0) ≡ t → WalkedBlock header b p k u
+  walk-headed low h false c = absurd (not-refused (sym (block-other header read b low h c) ∙ e))
+  walk-headed low h true c =
+      let x : BlockLine = record { kind = headerLine; phase = 0; end = lineEnd b 0; next = nextOf b 0 } in
+      let f : firstLine header b ≡ x = first-is header b low h ∙ rw c in
+      let r = next-range b 0 h in
+      let l : drop 1 (linesOf b) ≡ linesOf (drop (nextOf b 0) b) = ap (drop 1) (lines-past b 0 h) in
+      let w = walk-from header read b low (length b) x (record { from = omega arith; to = omega arith; inside = r .1; few = r .0 }) 2 0 p k u (omega arith) (sym (block-lines header read b low h c) ∙ e) in
+      record { first = ap (λ (y : BlockLine). y .kind) f; lines = rw (f, l) (w .walk); phases = rw l (omega (arith, w .phases)); comments = rw l (omega (arith, w .comments)) }
+
+  pub block-walked : WalkedBlock header b p k u
+  block-walked = elim (lt-or-le 65536 (length b)) [
+    | inl h ↦ absurd (not-refused (sym (block-long header read b h) ∙ e))
+    | inr low ↦ elim (lt-or-le 0 (length b)) [
+      | inl h ↦ walk-headed low h (isHeader header (lineOf b 0)) refl
+      | inr h ↦ absurd (not-refused (sym (block-none header read b low h) ∙ e))
+    ]
+  ]

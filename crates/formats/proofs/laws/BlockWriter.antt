@@ -3,20 +3,21 @@ use mathlib.Core.Path.{_≡_, refl, sym, ap, _∙_}
 use mathlib.Core.List.{List, [], _∷_, _++_, append-assoc}
 use Prim.Native.Nat.{ℕ, _+_, _-_, _≤_, _<_}
 use native.Mathlib.Omega.{arith}
-use lib.ListN.{length, drop, set, length-append, take-append-drop}
+use lib.ListN.{length, take, drop, set, length-append, take-append-drop}
 use lib.Seq.{drop-append-le}
 use borrow.Author.Tests.{lt-ltb, le-ltb}
 use borrow.Rule.Slice.PartMut.{midOf, putMid, put-same, mid-len, same-len-mid}
 use Rattle.columns.specs.Answer.{Answer, ok, refusal, tooShort}
-use Rattle.columns.specs.Column.{Rec, widths}
-use Rattle.columns.specs.Writing.{writeLine}
+use Rattle.columns.specs.Row.{Fits}
+use Rattle.columns.proofs.laws.Row.{filled-wide}
 use Rattle.columns.specs.Table.{over, placed, laid}
 use Rattle.formats.specs.declared.Reply.{Reply}
 use Rattle.formats.specs.Record.{replyOf, Replied}
-use Rattle.formats.specs.PhaseRecord.{readPhaseRecord, phaseLineAnswer, writePhaseFrom}
-use Rattle.formats.specs.Header.{spacedFrom, phaseHeader}
+use Rattle.formats.specs.Row.{RowFormat, writeRowFrom}
 use Rattle.formats.specs.BlockWriting.{ended, writeHeader, headerCall, recordCall, roomFrom, bytesIn, fromPlace, laidFrom, RepliedFrom}
-use Rattle.formats.proofs.laws.Record.{set-over}
+use Rattle.columns.proofs.laws.Places.{set-over}
+use Rattle.formats.proofs.laws.RowRecord.{over-part}
+use Rattle.formats.proofs.laws.RowRecordBack.{row-written}
 use Rattle.formats.proofs.laws.CubeRecord.{replied-done, replied-refused, replied-as}
 use Rattle.formats.specs.declared.Reply.the-variants as R
 
@@ -102,42 +103,39 @@ module _ (write : ℕ → Answer (List ℕ)) (part : List ℕ) (h : 0 < length p
 
 -- ---- the header
 
-pub header-size : length phaseHeader ≡ 199
-unfolding phaseHeader spacedFrom
-header-size = refl
+module _ (header : List ℕ) (some : 1 ≤ length header) where
+  header-short : (room : ℕ) → room < length header → writeHeader header room ≡ refusal tooShort 0
+  header-short room h = rw (lt-ltb room (length header) h)
 
-header-short : (room : ℕ) → room < 199 → writeHeader room ≡ refusal tooShort 0
-header-short room h = rw (header-size, lt-ltb room 199 h)
+  module _ (part : List ℕ) (n : ℕ) (e : n ≡ length header) where
+    pub header-refused : length part ≤ n → Replied (ended (writeHeader header (length part - 1))) (R.Refused tooShort 0) part part
+    header-refused h = replied-refused _ part tooShort 0 (ap ended (header-short (length part - 1) (omega arith)))
 
-module _ (part : List ℕ) where
-  pub header-refused : length part ≤ 199 → Replied (ended (writeHeader (length part - 1))) (R.Refused tooShort 0) part part
-  header-refused h = replied-refused _ part tooShort 0 (ap ended (header-short (length part - 1) (omega arith)))
+    pub header-done : n < length part → (zeros words to : List ℕ) → words ≡ over header zeros → to ≡ over (take (n - 0) (drop 0 words)) part → Replied (ended (writeHeader header (length part - 1))) (R.Done (n + 1)) part (set to n 10)
+    header-done h zeros words to w f =
+        let g : length header ≤ length part - 1 = omega arith in
+        let l : take (n - 0) (drop 0 words) ≡ header = ap (λ (x : List ℕ). take (n - 0) (drop 0 x)) w ∙ over-part header zeros n (sym e) in
+        ended-line (writeHeader header (length part - 1)) header part to n (rw (le-ltb (length part - 1) (length header) g)) (sym e) h (f ∙ ap (λ (x : List ℕ). over x part) l)
 
-  pub header-done : 199 < length part → (line to : List ℕ) → line ≡ phaseHeader → to ≡ over line part → Replied (ended (writeHeader (length part - 1))) (R.Done 200) part (set to 199 10)
-  header-done h line to e f =
-      let g : 199 ≤ length part - 1 = omega arith in
-      ended-line (writeHeader (length part - 1)) phaseHeader part to 199 (rw (header-size, le-ltb (length part - 1) 199 g)) header-size (omega arith) (f ∙ ap (λ (x : List ℕ). over x part) e)
+  -- ---- a call from a place that is past the last byte
 
--- ---- a call from a place that is past the last byte
-
-pub header-past : (at : ℕ) (out : List ℕ) → length out ≤ at → RepliedFrom at (headerCall at (length out)) (R.Refused tooShort 0) out out
-unfolding headerCall
-header-past at out h = rw (header-short (length out - at - 1) (omega arith)) (record { answer = refl; bytes = refl })
-
-no-room : (a : Answer Rec) (ys : List ℕ) → phaseLineAnswer a 0 ≡ ok ys → ⊥
-unfolding writeLine widths
-no-room (ok m) ys e = let z : _≡_ {A = ℕ} 0 1 = cc in omega arith
-no-room (refusal n k) ys e = let z : _≡_ {A = ℕ} 0 1 = cc in omega arith
+  pub header-past : (at : ℕ) (out : List ℕ) → length out ≤ at → RepliedFrom at (headerCall header at (length out)) (R.Refused tooShort 0) out out
+  unfolding headerCall
+  header-past at out h = rw (header-short (length out - at - 1) (omega arith)) (record { answer = refl; bytes = refl })
 
 refused-past : (at : ℕ) (a : Answer (List ℕ)) (r : Reply) (out to : List ℕ) → ((ys : List ℕ) → a ≡ ok ys → ⊥) → Replied a r (midOf 0 0 out) to → length to ≡ 0 → RepliedFrom at (ended a) r out (putMid 0 0 out to)
 refused-past at (ok ys) r out to f w s = absurd (f ys refl)
 refused-past at (refusal n k) r out to f w s = record { answer = w .answer; bytes = part-laid 0 0 (refusal n k) out to (w .bytes) s }
 
-pub record-past : (from : List ℕ) (at : ℕ) (r : Reply) (out to : List ℕ) → length out ≤ at → Replied (writePhaseFrom from 0) r (midOf 0 0 out) to → length to ≡ 0 → RepliedFrom at (recordCall from at (length out)) r out (putMid 0 0 out to)
-unfolding recordCall writePhaseFrom
-record-past from at r out to h w s =
-    let z : length out - at - 1 ≡ 0 = omega arith in
-    rw z (refused-past at (phaseLineAnswer (readPhaseRecord from) 0) r out to (no-room (readPhaseRecord from)) w s)
+module _ (F : RowFormat) (f : Fits (F .columns)) where
+  no-room : (from ys : List ℕ) → writeRowFrom F from 0 ≡ ok ys → ⊥
+  no-room from ys e = omega (arith, row-written F f from ys 0 e .fits, filled-wide (F .columns) (f .fine) (f .filled))
+
+  pub record-past : (from : List ℕ) (at : ℕ) (r : Reply) (out to : List ℕ) → length out ≤ at → Replied (writeRowFrom F from 0) r (midOf 0 0 out) to → length to ≡ 0 → RepliedFrom at (recordCall F from at (length out)) r out (putMid 0 0 out to)
+  unfolding recordCall
+  record-past from at r out to h w s =
+      let z : length out - at - 1 ≡ 0 = omega arith in
+      rw z (refused-past at (writeRowFrom F from 0) r out to (no-room from) w s)
 
 -- ---- a call that writes a line through the part of the output from a place on
 

@@ -2,36 +2,25 @@
 use mathlib.Core.Path.{_≡_, refl, sym, ap, _∙_}
 use mathlib.Core.Bool.{Bool, true, false}
 use mathlib.Core.List.{List, [], _++_}
-use Prim.Native.Nat.{ℕ, _-_, _≤_, _<_}
+use Prim.Native.Nat.{ℕ, _+_, _-_, _≤_, _<_}
 use native.Mathlib.Omega.{arith}
-use lib.ListN.{length, take, drop, getD, replicate, length-drop, take-append-drop}
+use lib.ListN.{length, take, drop, getD, replicate, length-drop, length-replicate}
 use lib.IntN.{ℤ, pos}
-use lib.Dec.{eqb, ltb}
-use borrow.Author.Tests.{ne-eqb, eq-eqb, eqb-true, le-ltb, lt-ltb}
-use lib.Seq.{drop-drop, take-all}
+use lib.Dec.{ltb}
+use borrow.Author.Tests.{ne-eqb, le-ltb, lt-ltb}
+use lib.Seq.{slice, length-take-le, take-all}
 use Rattle.formats.specs.declared.cube.LineRead.{LineRead}
-use Rattle.columns.specs.Answer.{pick, Answer, ok, refusal, barredByte}
+use Rattle.columns.specs.Answer.{pick, Answer, ok, refusal, barredByte, wrongLength}
 use Rattle.columns.specs.Column.{Rec}
 use Rattle.columns.specs.Reading.{readColumns}
-use Rattle.columns.specs.Table.{over}
+use Rattle.columns.specs.Table.{placed}
 use Rattle.formats.specs.Check.{checkCharacter}
-use Rattle.formats.specs.Cube.{eventColumns, delete, eventKind, deleteKind, differs, asEvent, lowestBarred, isType, readEvent, readDelete, readLink, readLine, lineOf, wrongLength, wrongType, wrongCheck, Message}
-use Rattle.columns.proofs.laws.Answers.{passed}
+use Rattle.formats.specs.Cube.{eventColumns, delete, eventKind, deleteKind, asEvent, lowestBarred, isType, readEvent, readDelete, readLink, readLine, lineOf, wrongType, wrongCheck, Message}
+use Rattle.columns.proofs.laws.Answers.{passed, differs-not, differs-is}
 use Rattle.columns.proofs.laws.Reader.{Whole}
+use Rattle.columns.proofs.laws.Bytes.{slice-is}
+use Rattle.columns.proofs.laws.Places.{placed-placed}
 use Rattle.formats.specs.declared.cube.Read.the-variants as R
-
-pub differs-not : (a b : ℕ) → a ≡ b → differs a b ≡ false
-differs-not a b e = rw (eq-eqb a b e)
-
-pub differs-same : (a b : ℕ) → differs a b ≡ false → a ≡ b
-differs-same a b e = by-test (eqb a b) refl e
-  where
-    by-test : (t : Bool) → eqb a b ≡ t → pick t false true ≡ false → a ≡ b
-    by-test true p q = eqb-true a b p
-    by-test false p q = let z : _≡_ {A = ℕ} 0 1 = cc in let y : ⊥ = omega arith in absurd y
-
-pub differs-is : (a b : ℕ) → (a ≡ b → ⊥) → differs a b ≡ true
-differs-is a b n = rw (ne-eqb a b n)
 
 -- what neither answer is, the one that a test picks is not
 pub pick-not : (f : Answer Message → Bool) (t : Bool) (a b : Answer Message) → f a ≡ false → f b ≡ false → f (pick t a b) ≡ false
@@ -142,11 +131,17 @@ event-is a w = rw (w .is, w .flags, w .values, w .chars)
 pub refused-is : (a : Answer Rec) (n k : ℕ) → a ≡ refusal n k → lineOf (refusal n k) ≡ lineOf (asEvent a)
 refused-is a n k e = rw e
 
-pub delete-is : (l : List ℕ) → 13 ≤ length l → record { read = R.There deleteKind 0 0 (length l - 13); flags = replicate 19 0; values = replicate 19 (pos 0); text = over (take (length l - 2) (drop 2 l)) (replicate 250 0) } ≡ lineOf (ok (delete (take 11 (drop 2 l)) (drop 13 l)))
-delete-is l h =
-    let a : take (length l - 2) (drop 2 l) ≡ drop 2 l = take-all (length l - 2) (drop 2 l) (omega (arith, length-drop 2 l)) in
-    let b : take 11 (drop 2 l) ++ drop 13 l ≡ drop 2 l = ap (λ (x : List ℕ). take 11 (drop 2 l) ++ x) (sym (drop-drop 11 2 l)) ∙ take-append-drop 11 (drop 2 l) in
-    rw (a, b, length-drop 13 l)
+pub delete-is : (l text₁ text₂ : List ℕ) (at : ℕ) → 13 ≤ length l → length l ≤ 80 → at ≡ 2 + 11 → text₁ ≡ placed 0 (slice 2 (2 + 11) l) (replicate 250 0) → text₂ ≡ placed 11 (slice at (at + (length l - 13)) l) text₁ → record { read = R.There deleteKind 0 0 (length l - 13); flags = replicate 19 0; values = replicate 19 (pos 0); text = text₂ } ≡ lineOf (ok (delete (take 11 (drop 2 l)) (drop 13 l)))
+delete-is l text₁ text₂ at h k z p q =
+    let a : slice 2 (2 + 11) l ≡ take 11 (drop 2 l) = slice-is l 2 11 in
+    let b : slice at (at + (length l - 13)) l ≡ drop 13 l = rw z (slice-is l 13 (length l - 13) ∙ take-all (length l - 13) (drop 13 l) (omega (arith, length-drop 13 l))) in
+    let n : length (take 11 (drop 2 l)) ≡ 11 = length-take-le 11 (drop 2 l) (omega (arith, length-drop 2 l)) in
+    let t : text₂ ≡ placed 0 (take 11 (drop 2 l) ++ drop 13 l) (replicate 250 0) =
+    q
+    ∙ ap (λ (x : List ℕ). placed 11 x text₁) b
+    ∙ ap (placed 11 (drop 13 l)) (p ∙ ap (λ (x : List ℕ). placed 0 x (replicate 250 0)) a)
+    ∙ placed-placed 0 11 (take 11 (drop 2 l)) (drop 13 l) (replicate 250 0) (omega (arith, n)) (omega (arith, length-drop 13 l, length-replicate {A = ℕ} 250 0)) in
+    rw (t, length-drop 13 l)
 
 -- a refusal by the lowest barred byte that the code found
 pub barred-is : (a : Answer Message) (k b : ℕ) (r : LineRead) → k ≡ b → r ≡ lineOf (refusal barredByte k) → a ≡ refusal barredByte b → r ≡ lineOf a

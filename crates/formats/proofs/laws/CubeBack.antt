@@ -7,17 +7,17 @@ use lib.ListN.{length, take, getD, length-append, drop, length-drop, take-append
 use lib.Dec.{ltb, eqb}
 use borrow.Author.Tests.{ltb-false, eqb-true}
 use lib.Seq.{take-at, drop-at, getD-at, length-take-le, drop-drop, take-add, take-take}
-use Rattle.columns.specs.Answer.{Answer, ok, refusal, barredByte, tooShort}
+use Rattle.columns.specs.Answer.{Answer, ok, refusal, barredByte, tooShort, unless, differs, wrongLength}
 use Rattle.columns.specs.Bytes.{barred}
 use Rattle.columns.specs.Column.{Slot, good, widths, allSlots, allTexts, bracketsIn, Rec}
 use Rattle.columns.specs.Writing.{writeColumns}
 use Rattle.formats.specs.Check.{checkCharacter}
-use Rattle.formats.specs.Cube.{eventColumns, event, delete, link, unless, differs, sealed, sealedAnswer, lowestBarred, readLine, asEvent, writeMessage, wrongLength, Message, readEvent, readDelete, wrongCheck}
+use Rattle.formats.specs.Cube.{eventColumns, event, delete, link, sealed, sealedAnswer, lowestBarred, readLine, asEvent, writeMessage, Message, readEvent, readDelete, wrongCheck}
 use Rattle.columns.proofs.laws.Columns.{Line, columns-back, columns-more-bytes}
 use Rattle.columns.proofs.laws.Stretch.{clean-line, barred-split, line-clean}
-use Rattle.columns.proofs.laws.Answers.{passed}
+use Rattle.columns.proofs.laws.Answers.{passed, differs-same}
 use Rattle.columns.proofs.laws.Tests.{both-true}
-use Rattle.formats.proofs.laws.Cube.{differs-same, line-event, event-columns, line-delete, delete-read, Came, by-event, by-delete, by-link, came}
+use Rattle.formats.proofs.laws.Cube.{line-event, event-columns, line-delete, delete-read, Came, by-event, by-delete, by-link, came}
 use Rattle.columns.specs.Reading.{readColumns}
 use Rattle.columns.proofs.laws.Accepted.{columns-accepted}
 use Rattle.formats.proofs.laws.CubeWriting.{put-event, put-delete}

@@ -8,17 +8,17 @@ use lib.ListN.{length, take, drop, getD, length-drop, take-append-drop}
 use lib.Dec.{ltb}
 use lib.Seq.{length-take-le, take-take, take-add, getD-take, getD-drop}
 use borrow.Author.Tests.{ltb-false, le-leb}
-use Rattle.columns.specs.Answer.{Answer, ok, refusal, barredByte}
+use Rattle.columns.specs.Answer.{Answer, ok, refusal, barredByte, unless, differs, wrongLength}
 use Rattle.columns.specs.Bytes.{barred, inside}
 use Rattle.columns.specs.Column.{Rec}
 use Rattle.columns.specs.Reading.{readColumns}
-use Rattle.columns.proofs.laws.Answers.{passed}
+use Rattle.columns.proofs.laws.Answers.{passed, differs-same}
 use Rattle.columns.proofs.laws.Clear.{Clear, clear-take, clear-none, none-clear}
 use Rattle.columns.proofs.laws.Stretch.{barred-split}
 use Rattle.formats.specs.Check.{checkCharacter}
 use Rattle.formats.specs.Link.{typeOf, addressOf, textOf}
-use Rattle.formats.specs.Cube.{Message, event, delete, link, eventColumns, unless, differs, asEvent, lowestBarred, readEvent, readDelete, readLink, readLine, wrongLength, wrongCheck}
-use Rattle.formats.proofs.laws.Cube.{differs-same, Came, by-event, by-delete, by-link, came}
+use Rattle.formats.specs.Cube.{Message, event, delete, link, eventColumns, asEvent, lowestBarred, readEvent, readDelete, readLink, readLine, wrongCheck}
+use Rattle.formats.proofs.laws.Cube.{Came, by-event, by-delete, by-link, came}
 use Rattle.formats.proofs.laws.LinkBack.{ReadLink, link-read}
 use Rattle.formats.proofs.laws.CubeBack.{after-type}
 

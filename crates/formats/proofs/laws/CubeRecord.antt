@@ -17,10 +17,12 @@ use Rattle.columns.proofs.laws.Table.{flags-length, values-length}
 use Rattle.formats.specs.declared.cube.LineRead.{LineRead}
 use Rattle.formats.specs.declared.Reply.{Reply}
 use Rattle.formats.specs.Cube.{Message, event, delete, link, eventKind, deleteKind, linkKind, readLine, lineOf, writeMessage}
-use Rattle.formats.specs.Record.{packed, slotsIn, sameBytes, replied, Replied}
+use Rattle.columns.specs.Bytes.{sameBytes}
+use Rattle.formats.specs.Record.{packed, slotsIn, replied, Replied}
 use Rattle.formats.specs.CubeRecord.{filled, recordOf, eventIn, deleteIn, linkIn, messageIn, readRecord, recordAnswer, readInto, writeFrom}
 use Rattle.formats.proofs.laws.CubeThere.{was-event, was-delete, was-link, was-refused}
-use Rattle.formats.proofs.laws.Record.{numbers-length, packed-length, part-over}
+use Rattle.columns.proofs.laws.Places.{part-over}
+use Rattle.formats.proofs.laws.Record.{numbers-length, packed-length}
 use Rattle.formats.proofs.laws.CubeBack.{Sized, line-accepted, event-size, delete-size}
 use Rattle.columns.specs.declared.Outcome.the-variants as O
 use Rattle.formats.specs.declared.cube.Read.the-variants as R

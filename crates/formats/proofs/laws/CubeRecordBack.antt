@@ -9,8 +9,8 @@ use lib.ListN.{length, take, drop, getD, length-drop, length-take, length-append
 use lib.Dec.{eqb, ltb}
 use lib.Seq.{length-take-le}
 use borrow.Author.Tests.{ltb-false}
-use Rattle.columns.specs.Answer.{pick, Answer, ok, refusal, badForm, tooShort, barredByte}
-use Rattle.columns.specs.Bytes.{barred}
+use Rattle.columns.specs.Answer.{pick, Answer, ok, refusal, badForm, tooShort, barredByte, unless, differs}
+use Rattle.columns.specs.Bytes.{barred, sameBytes}
 use Rattle.columns.specs.Column.{Rec, good, widths}
 use Rattle.columns.specs.Reading.{readColumns}
 use Rattle.columns.specs.Writing.{writeColumns}
@@ -18,12 +18,13 @@ use Rattle.columns.proofs.laws.Answers.{passed, held}
 use Rattle.columns.proofs.laws.Bounds.{columnOf, pick-bound, barred-bound, read-bound, write-bound}
 use Rattle.formats.specs.Check.{checkCharacter}
 use Rattle.formats.specs.Link.{typeOf, addressOf, textOf, formed}
-use Rattle.formats.specs.Cube.{Message, event, delete, link, eventKind, deleteKind, linkKind, eventColumns, unless, differs, asEvent, lowestBarred, linkBarred, linkParts, isType, readEvent, readDelete, readLink, readLine, sealedAnswer, putLink, writeMessage}
-use Rattle.formats.specs.Record.{packed, sameBytes, slotsIn}
+use Rattle.formats.specs.Cube.{Message, event, delete, link, eventKind, deleteKind, linkKind, eventColumns, asEvent, lowestBarred, linkBarred, linkParts, isType, readEvent, readDelete, readLink, readLine, sealedAnswer, putLink, writeMessage}
+use Rattle.formats.specs.Record.{packed, slotsIn}
 use Rattle.columns.specs.Table.{flagsOf, valuesOf}
 use Rattle.columns.proofs.laws.Table.{flags-length, values-length}
 use Rattle.formats.specs.CubeRecord.{recordSize, recordOf, eventIn, deleteIn, linkIn, messageIn, readRecord, recordAnswer, readInto, lineAnswer, writeFrom}
-use Rattle.formats.proofs.laws.Record.{same-is, numbers-length, packed-length}
+use Rattle.columns.proofs.laws.Bytes.{same-is}
+use Rattle.formats.proofs.laws.Record.{numbers-length, packed-length}
 use Rattle.formats.proofs.laws.CubeBack.{event-back, delete-back, Sized, line-accepted, event-size, delete-low-size}
 use Rattle.formats.proofs.laws.LinkBack.{link-back, link-low-size}
 use Rattle.formats.proofs.laws.CubeRecord.{into-read, filled-length, parts-length}

@@ -7,18 +7,17 @@ use lib.ListN.{length, take, set, replicate, length-append, length-set}
 use borrow.Author.Tests.{le-ltb, lt-ltb}
 use lib.Seq.{take-at, take-all, set-at}
 use Rattle.columns.specs.declared.Outcome.{Outcome}
-use Rattle.columns.specs.Answer.{ok, refusal, barredByte, tooShort}
+use Rattle.columns.specs.Answer.{ok, refusal, barredByte, tooShort, wrongLength}
 use Rattle.columns.specs.Bytes.{barred}
 use Rattle.columns.specs.Column.{Slot, good, widths, allSlots, allTexts}
 use Rattle.columns.specs.Writing.{writeColumns, writePart}
 use Rattle.columns.specs.Table.{over, placed, Wrote, WrotePart}
 use Rattle.formats.specs.Check.{checkCharacter}
-use Rattle.formats.specs.Cube.{eventColumns, event, delete, sealed, writeMessage, wrongLength}
+use Rattle.formats.specs.Cube.{eventColumns, event, delete, sealed, writeMessage}
 use Rattle.columns.proofs.laws.Places.{set-placed, placed-placed, placed-split}
-use Rattle.columns.proofs.laws.Answers.{wrote-refused, wrote-whole, refused-of, done-of}
+use Rattle.columns.proofs.laws.Answers.{wrote-refused, wrote-whole, refused-of, done-of, differs-not, differs-is}
 use Rattle.columns.proofs.laws.Columns.{columns-size}
 use Rattle.columns.proofs.laws.Writer.{part-wrote}
-use Rattle.formats.proofs.laws.Cube.{differs-not, differs-is}
 use Rattle.columns.proofs.laws.Stretch.{barred-first, barred-after}
 use Rattle.columns.specs.declared.Outcome.the-variants as O
 

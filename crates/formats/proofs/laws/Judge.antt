@@ -1,23 +1,20 @@
 -- An acceptable E line and an acceptable LI line, as the code comes to them.
 use mathlib.Core.Path.{_≡_, refl, sym, ap, _∙_}
-use mathlib.Core.Bool.{Bool, true, false, _&&_}
-use mathlib.Core.List.{List, [], _∷_}
-use Prim.Native.Nat.{ℕ, _+_}
+use mathlib.Core.Bool.{Bool, false, _&&_}
+use mathlib.Core.List.{List, []}
+use Prim.Native.Nat.{ℕ}
 use native.Mathlib.Omega.{arith}
 use lib.ListN.{length, take, drop, getD}
-use lib.Seq.{slice}
 use lib.Dec.{eqb, ltb}
 use borrow.Author.Tests.{ne-eqb}
-use Rattle.columns.specs.Answer.{pick, Answer, ok, refusal}
-use Rattle.columns.specs.Column.{Rec, Col, text, width}
-use Rattle.columns.specs.Reading.{readCell, readColumns}
-use Rattle.columns.specs.Judge.{isOk, cellOk, accepted}
+use Rattle.columns.specs.Answer.{pick, Answer, ok, refusal, isOk, differs, wrongLength}
+use Rattle.columns.specs.Column.{Rec}
+use Rattle.columns.specs.Reading.{readColumns}
 use Rattle.columns.proofs.laws.Tests.{and-false}
-use Rattle.columns.proofs.laws.Judge.{columns-ok, accepted-stop, accepted-more, text-accepted}
 use Rattle.formats.specs.Check.{checkCharacter}
 use Rattle.formats.specs.Link.{typeOf, addressOf, textOf, formed}
 use Rattle.formats.specs.declared.cube.LineRead.{LineRead}
-use Rattle.formats.specs.Cube.{eventColumns, Message, event, delete, link, eventKind, deleteKind, linkKind, asEvent, lowestBarred, linkBarred, linkParts, readEvent, readDelete, readLink, readLine, lineOf, isType, differs, wrongLength, wrongType}
+use Rattle.formats.specs.Cube.{eventColumns, Message, event, delete, link, eventKind, deleteKind, linkKind, asEvent, lowestBarred, linkBarred, linkParts, readEvent, readDelete, readLink, readLine, lineOf, isType, wrongType}
 use Rattle.formats.specs.Judge.{isEventAnswer, isEventLine, isLinkAnswer, isLinkLine}
 use Rattle.formats.proofs.laws.Cube.{pick-not, event-length, event-barred, event-check, event-columns, line-event}
 use Rattle.formats.proofs.laws.CubeThere.{was-refused}
@@ -87,30 +84,10 @@ module _ (l : List ℕ) where
       pub judged-check : (getD l 79 0 ≡ checkCharacter (take 79 l) → ⊥) → false ≡ isEventLine l
       judged-check q = refused-not _ _ _ is-event (event-check l h p q)
 
-      pub judged-columns : getD l 79 0 ≡ checkCharacter (take 79 l) → accepted eventColumns 2 l ≡ isEventLine l
+      pub judged-columns : getD l 79 0 ≡ checkCharacter (take 79 l) → isOk (readColumns eventColumns [] 2 (drop 2 l)) ≡ isEventLine l
       unfolding isEventLine
       judged-columns q =
-          sym (ap isEventAnswer (is-event ∙ event-columns l h p q) ∙ as-event-is (readColumns eventColumns [] 2 (drop 2 l)) ∙ columns-ok eventColumns [] 2 l)
-
--- ---- the columns, one test after the other
-
-module _ (c : Col) (cs : List Col) (at : ℕ) (l : List ℕ) {b : Bool} (e : b ≡ cellOk c (slice at (at + width c) l)) where
-  pub judged-stop : b ≡ false → false ≡ accepted (c ∷ cs) at l
-  judged-stop f = sym (accepted-stop cs at l c (sym e ∙ f))
-
-  pub judged-more : b ≡ true → {r : Bool} → r ≡ accepted cs (at + width c) l → r ≡ accepted (c ∷ cs) at l
-  judged-more f g = g ∙ sym (accepted-more cs at l c (sym e ∙ f))
-
-pub judged-text : (w : ℕ) (x : Bool) (cs : List Col) (at : ℕ) (l : List ℕ) {r : Bool} → r ≡ accepted cs (at + w) l → r ≡ accepted (text w false x ∷ cs) at l
-judged-text w x cs at l g = g ∙ sym (text-accepted w x cs at l)
-
-pub judged-last : (c : Col) (w : ℕ) (x : Bool) (at : ℕ) (l : List ℕ) {b : Bool} → b ≡ cellOk c (slice at (at + width c) l) → b ≡ accepted (c ∷ text w false x ∷ []) at l
-unfolding accepted cellOk readCell
-judged-last c w x at l e = e ∙ sym (and-true (cellOk c (slice at (at + width c) l)))
-  where
-    and-true : (b : Bool) → b && true ≡ b
-    and-true true = refl
-    and-true false = refl
+          sym (ap isEventAnswer (is-event ∙ event-columns l h p q) ∙ as-event-is (readColumns eventColumns [] 2 (drop 2 l)))
 
 -- ---- a link, by the outcome of the line reader
 

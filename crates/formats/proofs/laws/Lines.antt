@@ -1,14 +1,15 @@
 -- Laws of lines: where a line ends, and the lines from there on.
-use Prim.Native.Nat.{ℕ, suc, _+_, _-_, _≤_, _<_}
-use mathlib.Core.Path.{_≡_, refl, _∙_, ap}
-use mathlib.Core.Bool.{Bool, true, false}
-use mathlib.Core.List.{List, [], _∷_}
+use Prim.Native.Nat.{ℕ, zero, suc, _+_, _-_, _≤_, _<_}
+use mathlib.Core.Path.{_≡_, refl, sym, _∙_, ap}
+use mathlib.Core.Bool.{Bool, true, false, not, _&&_, false≢true}
+use mathlib.Core.List.{List, [], _∷_, _++_}
+use mathlib.Core.Logic.{_⊎_, inl, inr}
 use native.Mathlib.Omega.{arith}
 use native.Mathlib.Numerals.{add-one}
 use lib.Dec.{eqb}
-use lib.ListN.{length, take, drop, getD, length-drop, drop-of-length-le}
-use lib.Seq.{drop-cons, drop-drop}
-use borrow.Author.Tests.{eq-eqb, ne-eqb}
+use lib.ListN.{length, take, drop, getD, length-drop, drop-of-length-le, take-append-drop}
+use lib.Seq.{drop-cons, drop-drop, length-take-le}
+use borrow.Author.Tests.{eq-eqb, ne-eqb, eqb-true, eqb-false}
 use Rattle.columns.specs.Answer.{pick}
 use Rattle.formats.specs.Lines.{onFirst, linesOf, lineLength, lineEnd}
 
@@ -29,6 +30,14 @@ lines-of-last = refl
 lines-of-ended : linesOf (10 ∷ 65 ∷ 10 ∷ []) ≡ [] ∷ (65 ∷ []) ∷ []
 unfolding linesOf onFirst
 lines-of-ended = refl
+
+-- ---- two numbers
+
+pub lt-or-le : (a b : ℕ) → (a < b) ⊎ (b ≤ a)
+lt-or-le zero zero = inr (omega arith)
+lt-or-le zero (suc b) = inl (omega arith)
+lt-or-le (suc a) zero = inr (omega arith)
+lt-or-le (suc a) (suc b) = elim (lt-or-le a b) [ inl p ↦ inl (omega (arith, p)) | inr p ↦ inr (omega (arith, p)) ]
 
 -- ---- a line's length
 
@@ -88,3 +97,53 @@ module _ (s : List ℕ) (at : ℕ) where
   pub line-end-last : length s ≤ at → lineEnd s at ≡ at
   unfolding lineEnd lineLength
   line-end-last h = rw (drop-of-length-le s {i = at} h) (omega arith)
+
+-- ---- what a test of the bytes up to a place has seen
+
+abbrev pub Seen : Bool → List ℕ → ℕ → Type 0
+Seen ok c i = (ok ≡ true → lineEnd c 0 ≡ lineEnd c i) × (ok ≡ false → lineEnd c 0 < i)
+
+module _ (c : List ℕ) (i : ℕ) (h : i < length c) where
+  by-byte : (t : Bool) → eqb (getD c i 0) 10 ≡ t → lineEnd c 0 ≡ lineEnd c i → Seen (not t) c (i + 1)
+  by-byte true q p = (λ e. absurd (false≢true e), λ e. omega (arith, p, line-end-newline c i h (eqb-true _ _ q)))
+  by-byte false q p = (λ e. p ∙ line-end-other c i h (eqb-false _ _ q), λ e. absurd (false≢true (sym e)))
+
+  pub seen-next : (ok : Bool) → Seen ok c i → Seen (ok && not (eqb (getD c i 0) 10)) c (i + 1)
+  seen-next true p = by-byte (eqb (getD c i 0) 10) refl (p .0 refl)
+  seen-next false p = (λ e. absurd (false≢true e), λ e. omega (arith, p .1 refl))
+
+-- ---- the line's end in a part, or past it
+
+in-by : (t : Bool) (m n k : ℕ) → (n < k → m ≡ n) → pick t 0 (suc n) < suc k → pick t 0 (suc m) ≡ pick t 0 (suc n)
+in-by true m n k f h = refl
+in-by false m n k f h = ap suc (f (omega arith))
+
+length-in : (a b : List ℕ) → lineLength a < length a → lineLength (a ++ b) ≡ lineLength a
+unfolding lineLength
+length-in [] b h = absurd (omega arith)
+length-in (x ∷ a) b h = in-by (eqb x 10) _ _ (length a) (length-in a b) h
+
+past-by : (t : Bool) (m n k j : ℕ) → (n ≡ k → m ≡ k + j) → pick t 0 (suc n) ≡ suc k → pick t 0 (suc m) ≡ suc k + j
+past-by true m n k j f e = absurd (omega arith)
+past-by false m n k j f e = omega (arith, f (omega arith))
+
+length-past : (a b : List ℕ) → lineLength a ≡ length a → lineLength (a ++ b) ≡ length a + lineLength b
+unfolding lineLength
+length-past [] b e = omega arith
+length-past (x ∷ a) b e = past-by (eqb x 10) _ _ (length a) (lineLength b) (length-past a b) e
+
+-- the w bytes from place i on
+module _ (s : List ℕ) (i w : ℕ) (h : i + w ≤ length s) where
+  size : length (take w (drop i s)) ≡ w
+  size = length-take-le w (drop i s) (simp length-drop (omega arith))
+
+  split : lineLength (drop i s) ≡ lineLength (take w (drop i s) ++ drop (i + w) s)
+  split = ap lineLength (sym (take-append-drop w (drop i s)) ∙ rw (drop-drop w i s))
+
+  pub part-in : lineEnd (take w (drop i s)) 0 < w → lineEnd s i ≡ i + lineEnd (take w (drop i s)) 0
+  unfolding lineEnd
+  part-in p = omega (arith, split, length-in (take w (drop i s)) (drop (i + w) s) (omega (arith, size)))
+
+  pub part-past : lineEnd (take w (drop i s)) 0 ≡ w → lineEnd s i ≡ lineEnd s (i + w)
+  unfolding lineEnd
+  part-past p = omega (arith, split, size, length-past (take w (drop i s)) (drop (i + w) s) (omega (arith, size)))

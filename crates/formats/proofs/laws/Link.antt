@@ -12,7 +12,7 @@ use borrow.Author.Tests.{eq-eqb, ne-eqb, eqb-true, le-leb, lt-leb, leb-true}
 use Rattle.columns.specs.Answer.{pick}
 use Rattle.columns.proofs.laws.Tests.{both-true, and-false}
 use Rattle.formats.specs.Link.{word, solid, typeOf, addressOf, textOf, isWord, begun, formed, saysDelete}
-use Rattle.formats.specs.Record.{sameBytes}
+use Rattle.columns.proofs.laws.Bytes.{same-none}
 
 -- ---- words: the bytes before the first blank
 
@@ -277,8 +277,8 @@ module _ (l : List ℕ) where
 -- ---- a line with no text takes nothing back
 
 says-none : false ≡ saysDelete []
-unfolding saysDelete sameBytes
-says-none = refl
+unfolding saysDelete
+says-none = simp same-none
 
 module _ (l : List ℕ) (e : ℕ) (p : e ≡ 15 + length (word (drop 15 l))) where
   pub no-address-says : length l ≤ e → false ≡ saysDelete (textOf l)

@@ -2,19 +2,19 @@
 use mathlib.Core.Path.{_≡_, refl, sym, ap, _∙_, subst}
 use mathlib.Core.Bool.{Bool, true, _&&_}
 use mathlib.Core.List.{List, _∷_, _++_}
-use Prim.Native.Nat.{ℕ, suc, _+_, _-_, _≤_, _<_}
+use Prim.Native.Nat.{ℕ, suc, _+_, _≤_, _<_}
 use native.Mathlib.Omega.{arith}
 use lib.ListN.{length, take, drop, getD, length-drop, take-append-drop}
 use lib.Dec.{ltb, eqb}
 use lib.Seq.{length-take-le, take-at, getD-at, drop-drop, drop-cons, drop-append-add}
 use borrow.Author.Tests.{ltb-false, eqb-true}
-use Rattle.columns.specs.Answer.{pick, ok, refusal, barredByte, badForm, tooShort}
-use Rattle.columns.proofs.laws.Answers.{passed, held}
+use Rattle.columns.specs.Answer.{pick, ok, refusal, barredByte, badForm, tooShort, unless, differs, wrongLength}
+use Rattle.columns.proofs.laws.Answers.{passed, held, differs-same}
 use Rattle.columns.proofs.laws.Tests.{both-true}
 use Rattle.formats.specs.Link.{word, typeOf, addressOf, textOf, formed}
-use Rattle.formats.specs.Cube.{Message, link, linkLine, linkBarred, linkParts, unless, differs, readLink, readLine, putLink, writeMessage, wrongLength}
+use Rattle.formats.specs.Cube.{Message, link, linkLine, linkBarred, linkParts, readLink, readLine, putLink, writeMessage}
 use Rattle.formats.proofs.laws.Link.{Formed, formed-of, text-length, word-split, word-blank}
-use Rattle.formats.proofs.laws.Cube.{differs-same, line-link}
+use Rattle.formats.proofs.laws.Cube.{line-link}
 use Rattle.formats.proofs.laws.LinkLine.{link-clear, parts-read, put-link, link-size}
 
 -- ---- what a line that is read says

@@ -7,14 +7,14 @@ use native.Mathlib.Omega.{arith}
 use lib.ListN.{length, take, drop, getD}
 use lib.Dec.{eqb, ltb}
 use borrow.Author.Tests.{eqb-true}
-use Rattle.columns.specs.Answer.{Answer, ok, refusal}
+use Rattle.columns.specs.Answer.{Answer, ok, refusal, differs}
 use Rattle.columns.specs.Column.{Rec}
 use Rattle.columns.specs.Reading.{readColumns}
 use Rattle.columns.proofs.laws.Clear.{Clear, barred-text}
 use Rattle.columns.proofs.laws.Tests.{both-true}
 use Rattle.formats.specs.Link.{typeOf, addressOf, textOf}
 use Rattle.formats.specs.Check.{checkCharacter}
-use Rattle.formats.specs.Cube.{Message, link, linkLine, eventColumns, asEvent, lowestBarred, differs, readEvent, readDelete, readLine, isType, writeMessage}
+use Rattle.formats.specs.Cube.{Message, link, linkLine, eventColumns, asEvent, lowestBarred, readEvent, readDelete, readLine, isType, writeMessage}
 use Rattle.formats.specs.Judge.{isLinkAnswer}
 use Rattle.formats.proofs.laws.Link.{formed-of}
 use Rattle.formats.proofs.laws.Cube.{Came, by-event, by-delete, by-link, came, pick-not}

@@ -9,15 +9,15 @@ use lib.IntN.{pos}
 use lib.Dec.{eqb}
 use lib.Seq.{take-at}
 use borrow.Author.Tests.{eq-eqb, ne-eqb, le-ltb, lt-ltb}
-use Rattle.columns.specs.Answer.{ok, refusal, barredByte, badForm, tooShort}
+use Rattle.columns.specs.Answer.{ok, refusal, barredByte, badForm, tooShort, wrongLength}
 use Rattle.columns.specs.Table.{over, placed}
 use Rattle.columns.proofs.laws.Tests.{and-false}
 use Rattle.formats.specs.Link.{word, typeOf, addressOf, textOf, formed}
-use Rattle.formats.specs.Cube.{link, linkKind, linkLine, linkBarred, linkParts, readLink, putLink, lineOf, writeMessage, wrongLength}
+use Rattle.formats.specs.Cube.{link, linkKind, linkLine, linkBarred, linkParts, readLink, putLink, lineOf, writeMessage}
 use Rattle.formats.proofs.laws.Link.{address-none, text-none, no-address, no-text, type-end, type-part, address-end, address-part, text-part}
-use Rattle.formats.proofs.laws.Cube.{differs-not, differs-is}
+use Rattle.columns.proofs.laws.Answers.{differs-not, differs-is}
 use Rattle.formats.proofs.laws.CubeWriting.{two-placed}
-use Rattle.formats.proofs.laws.Record.{part-over, set-over}
+use Rattle.columns.proofs.laws.Places.{part-over, set-over}
 use Rattle.formats.specs.declared.cube.Read.the-variants as R
 
 -- ---- read

@@ -11,9 +11,10 @@ use Rattle.columns.specs.Answer.{ok, badForm}
 use Rattle.columns.specs.Table.{over, Wrote}
 use Rattle.columns.proofs.laws.Answers.{over-whole}
 use Rattle.formats.specs.Cube.{Message, link, linkKind, readLine, writeMessage}
-use Rattle.formats.specs.Record.{sameBytes, replied, Replied}
+use Rattle.columns.specs.Bytes.{sameBytes}
+use Rattle.formats.specs.Record.{replied, Replied}
 use Rattle.formats.specs.CubeRecord.{filled, recordOf, linkIn, messageIn, writeFrom}
-use Rattle.formats.proofs.laws.Record.{same-is, same-self}
+use Rattle.columns.proofs.laws.Bytes.{same-is, same-self}
 use Rattle.formats.proofs.laws.LinkBack.{link-back-size}
 use Rattle.formats.proofs.laws.CubeBack.{Sized, line-accepted}
 use Rattle.formats.proofs.laws.CubeRecord.{replied-refused, wrote-replied, replied-as, from-other, from-same, filled-length, parts-length, link-named}

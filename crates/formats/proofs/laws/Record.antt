@@ -1,72 +1,29 @@
--- Laws of a record's bytes: a number in bytes, the loops that write and read them, and their parts.
+-- Laws of a record's bytes: signs, the loops that write and read them, and their parts.
 use mathlib.Core.Path.{_≡_, refl, sym, ap, _∙_}
 use mathlib.Core.Bool.{Bool, true, false}
 use mathlib.Core.List.{List, [], _∷_, _++_, append-assoc, append-nil}
-use Prim.Native.Nat.{ℕ, zero, suc, _+_, _-_, _*_, _/_, _%_, _^_, _≤_, _<_}
-use native.Mathlib.Nat.{pow-suc, pow-le-pow-right}
+use Prim.Native.Nat.{ℕ, zero, suc, _+_, _-_, _*_, _^_, _≤_, _<_}
 use native.Mathlib.Numerals.{add-one}
 use native.Mathlib.Omega.{arith}
-use lib.ListN.{length, take, drop, getD, set, length-set, length-append, drop-of-length-le}
-use lib.Seq.{drop-cons, getD-set-same, drop-set-lt, drop-length, drop-drop, take-suc, take-all, length-take-le, getD-drop}
-use lib.Dec.{ltb, eqb, lit<}
+use lib.ListN.{length, take, drop, getD, set, length-append}
+use lib.Seq.{drop-drop, take-suc, take-all, length-take-le, getD-drop}
+use lib.Dec.{ltb, eqb}
 use lib.IntN.{ℤ, pos, negsuc, natAbs, _-ℤ_}
 use lib.Signed.{ltZ}
 use mir.Syntax.{w64}
 use mir.Val.{SFits, toZ, ofZ}
 use mir.ValLaws.{toZ-ofZ, toZ-pos}
-use borrow.Author.Tests.{ltb-true, lt-ltb, le-ltb, eq-eqb, ne-eqb, eqb-true}
+use borrow.Author.Tests.{ltb-true, lt-ltb, le-ltb}
 use borrow.Rule.Slice.PartMut.{putMid, midOf, mid-len}
 use Rattle.columns.specs.Answer.{pick}
+use Rattle.columns.specs.Word.{wordBytes, wordOf}
 use Rattle.columns.specs.Column.{Slot, missing, given}
 use Rattle.columns.specs.Table.{slotOf, flagOf, valueOf, flagsOf, valuesOf, over, placed}
-use Rattle.columns.proofs.laws.Places.{placed-length, placed-placed, part-placed, set-placed}
+use Rattle.columns.proofs.laws.Places.{placed-length, placed-placed, part-placed, set-placed, set-over}
+use Rattle.columns.proofs.laws.Word.{word-length}
 use Rattle.columns.proofs.laws.Table.{flags-length, values-length, flags-append, values-append}
 use Rattle.columns.proofs.laws.Answers.{over-whole}
-use Rattle.formats.specs.Record.{wordBytes, wordOf, patternOf, signedOf, allOnes, topBit, valueBytes, packed, slotsIn, sameBytes}
-
--- ---- a number in bytes, written from the right
-
-drop-set-at : (l : List ℕ) (k b : ℕ) → k < length l → drop k (set l k b) ≡ b ∷ drop (suc k) l
-drop-set-at l k b h =
-    drop-cons (set l k b) k 0 (omega (arith, length-set l k b))
-    ∙ rw (getD-set-same l k b 0 h, drop-set-lt (suc k) l k b (omega arith))
-
-pub word-turn : (l : List ℕ) (i m : ℕ) → 0 < i → i ≤ length l → wordBytes i m ++ drop i l ≡ wordBytes (i - 1) (m / 256) ++ drop (i - 1) (set l (i - 1) (m % 256))
-unfolding wordBytes
-word-turn l zero m h k = let y : ⊥ = omega arith in absurd y
-word-turn l (suc i) m h k =
-    let z : suc i - 1 ≡ i = omega arith in
-    rw (z, append-assoc, drop-set-at l i (m % 256) (omega arith))
-
-pub word-start : (l : List ℕ) (n : ℕ) → wordBytes (length l) n ≡ wordBytes (length l) n ++ drop (length l) l
-word-start l n = rw (drop-length l, append-nil)
-
-pub word-end : (l : List ℕ) (i m : ℕ) → i ≤ 0 → wordBytes i m ++ drop i l ≡ l
-unfolding wordBytes
-word-end l i m h = let e : i ≡ 0 = omega arith in rw e
-
-pub word-length : (w n : ℕ) → length (wordBytes w n) ≡ w
-unfolding wordBytes
-word-length zero n = refl
-word-length (suc w) n = length-append (wordBytes w (n / 256)) ((n % 256) ∷ []) ∙ omega (arith, word-length w (n / 256))
-
--- ---- a number in bytes, read from the left
-
-module _ (l : List ℕ) (i : ℕ) where
-  pub word-more : (n : ℕ) → i < length l → wordOf n (drop i l) ≡ wordOf (n * 256 + getD l i 0) (drop (i + 1) l)
-  unfolding wordOf
-  word-more n h = rw (drop-cons l i 0 h, add-one)
-
-  pub word-none : (n : ℕ) → length l ≤ i → wordOf n (drop i l) ≡ n
-  unfolding wordOf
-  word-none n h = rw (drop-of-length-le l {i = i} h)
-
--- the number so far leaves room for the bytes to come
-pub word-room : (n b i : ℕ) → b < 256 → n < 256 ^ i → n * 256 + b < 256 ^ (i + 1)
-word-room n b i h k = rw (add-one, pow-suc) (omega arith)
-
-pub word-low : (i : ℕ) → i < 8 → 256 ^ (i + 1) ≤ 256 ^ 8
-word-low i h = let k : i + 1 ≤ 8 = omega arith in pow-le-pow-right {n = 256} (lit< tt) k
+use Rattle.formats.specs.Record.{patternOf, signedOf, allOnes, topBit, valueBytes, packed, slotsIn}
 
 -- ---- signs
 
@@ -109,53 +66,6 @@ module _ (u : ℕ) (h : topBit ≤ u) (k : u ≤ allOnes) where
 
   pub signed-high : toZ w64 (ofZ w64 (negsuc 0 -ℤ toZ w64 (allOnes - u))) ≡ signedOf u
   signed-high = rw (less-is, toZ-ofZ w64 (negsuc (allOnes - u)) less-fits, le-ltb u topBit h)
-
--- ---- equal bytes
-
-not-first : (t x : Bool) → x ≡ false → pick t x false ≡ false
-not-first true x e = e
-not-first false x e = refl
-
-pub same-length : (a b : List ℕ) → (length a ≡ length b → ⊥) → sameBytes a b ≡ false
-unfolding sameBytes
-same-length [] [] n = let y : ⊥ = n refl in absurd y
-same-length [] (y ∷ b) n = refl
-same-length (x ∷ a) [] n = refl
-same-length (x ∷ a) (y ∷ b) n = not-first (eqb x y) (sameBytes a b) (same-length a b (λ e. n (ap suc e)))
-
-module _ (a b : List ℕ) where
-  module _ (i : ℕ) where
-    pub same-end : length a ≤ i → length b ≤ i → sameBytes (drop i a) (drop i b) ≡ true
-    unfolding sameBytes
-    same-end h k = rw (drop-of-length-le a {i = i} h, drop-of-length-le b {i = i} k)
-
-    module _ (h : i < length a) (k : i < length b) where
-      pub same-more : getD a i 0 ≡ getD b i 0 → sameBytes (drop i a) (drop i b) ≡ sameBytes (drop (i + 1) a) (drop (i + 1) b)
-      unfolding sameBytes
-      same-more e = rw (drop-cons a i 0 h, drop-cons b i 0 k, add-one, eq-eqb (getD a i 0) (getD b i 0) e)
-
-      pub same-other : (getD a i 0 ≡ getD b i 0 → ⊥) → sameBytes (drop i a) (drop i b) ≡ false
-      unfolding sameBytes
-      same-other n = rw (drop-cons a i 0 h, drop-cons b i 0 k, ne-eqb (getD a i 0) (getD b i 0) n)
-
-first-same : (x y : ℕ) (t u : Bool) → eqb x y ≡ t → pick t u false ≡ true → (x ≡ y) × (u ≡ true)
-first-same x y true u e p = (eqb-true x y e, p)
-first-same x y false u e p = let z : _≡_ {A = ℕ} 0 1 = cc in let y : ⊥ = omega arith in absurd y
-
--- what is equal byte for byte is one list
-pub same-is : (a b : List ℕ) → sameBytes a b ≡ true → a ≡ b
-unfolding sameBytes
-same-is [] [] e = refl
-same-is [] (y ∷ b) e = let z : _≡_ {A = ℕ} 0 1 = cc in let y : ⊥ = omega arith in absurd y
-same-is (x ∷ a) [] e = let z : _≡_ {A = ℕ} 0 1 = cc in let y : ⊥ = omega arith in absurd y
-same-is (x ∷ a) (y ∷ b) e =
-    let p = first-same x y (eqb x y) (sameBytes a b) refl e in
-    rw (p .0, same-is a b (p .1))
-
-pub same-self : (a : List ℕ) → sameBytes a a ≡ true
-unfolding sameBytes
-same-self [] = refl
-same-self (x ∷ a) = rw (eq-eqb x x refl) (same-self a)
 
 -- ---- the bytes of values
 
@@ -228,17 +138,6 @@ pub numbers-length : (i : ℕ) (fs s : List ℕ) → length (slotsIn i fs s) ≡
 unfolding slotsIn
 numbers-length zero fs s = refl
 numbers-length (suc i) fs s = ap suc (numbers-length i (drop 1 fs) (drop 8 s))
-
--- more at the end of what stands over the first places
-pub part-over : {A : Type 0} (xs ys l out : List A) (at : ℕ) → out ≡ over xs l → at ≡ length xs → at + length ys ≤ length l → placed at ys out ≡ over (xs ++ ys) l
-part-over xs ys l out at e n h =
-    let z : at ≡ 0 + length xs = omega arith in
-    ap (placed at ys) e ∙ placed-placed 0 at xs ys l z h
-
-pub set-over : {A : Type 0} (xs l out : List A) (x : A) (i : ℕ) → length xs ≡ i → i < length l → out ≡ over xs l → set out i x ≡ over (xs ++ x ∷ []) l
-set-over xs l out x i n h e =
-    let k : length out ≡ length l = ap length e ∙ placed-length 0 xs l (omega arith) in
-    set-placed i out x (omega arith) ∙ part-over xs (x ∷ []) l out i e (sym n) (omega arith)
 
 -- the slot that a flag and a value stand for
 pub flag-is : (f : ℕ) (u v : ℤ) → flagOf (slotOf f u) ≡ flagOf (slotOf f v)

@@ -1,18 +1,23 @@
 -- From a reply to the one number that is returned.
 use mathlib.Core.Path.{_≡_, refl, sym, ap, _∙_, subst}
 use mathlib.Core.List.{List}
-use Prim.Native.Nat.{ℕ, _≤_, _<_}
-use Rattle.columns.specs.Answer.{Answer, ok, refusal}
+use mathlib.Core.Bool.{Bool, true, false}
+use Prim.Native.Nat.{ℕ, _+_, _*_, _/_, _%_, _≤_, _<_}
+use native.Mathlib.Omega.{arith}
+use lib.Dec.{eqb}
+use borrow.Author.Tests.{eq-eqb, ne-eqb}
+use Rattle.columns.specs.Answer.{pick, Answer, ok, refusal}
 use Rattle.columns.proofs.laws.Bounds.{columnOf}
 use Rattle.formats.specs.declared.Reply.{Reply}
 use Rattle.formats.specs.Record.{replyOf, Replied}
 use Rattle.formats.specs.BlockWriting.{fromPlace, RepliedFrom}
 use Rattle.formats.specs.declared.block.Block.{Block}
 use Rattle.formats.specs.declared.block.Block.the-variants as B
-use Rattle.formats.proofs.laws.BlockBounds.{Small, SmallRead, SmallLine}
+use Rattle.formats.proofs.laws.BlockBounds.{Small, SmallRead, SmallLine, first-small, next-small}
+use Rattle.formats.specs.BlockWalk.{firstLine, nextLine}
 use Rattle.formats.specs.declared.block_walk.BlockLine.{BlockLine}
 use Rattle.formats.proofs.laws.CubeRecordBack.{sizeOf}
-use Rattle.rotmibel.specs.Answers.{numberOf, numberIn, small, Answered, placeNumber, placeIn, lowColumn, AnsweredFrom}
+use Rattle.rotmibel.specs.Answers.{numberOf, numberIn, small, Answered, placeNumber, placeIn, lowColumn, AnsweredFrom, lineNumber, lineIn, metLine}
 
 pub answered : {a : Answer (List ℕ)} {r : Reply} {from to : List ℕ} (n : ℕ) → n ≡ numberIn r → Replied a r from to → Answered a n from to
 answered {a} {r} {from} {to} n e w = record { answer = e ∙ ap numberIn (w .answer) ∙ in-is a; bytes = w .bytes }
@@ -55,3 +60,52 @@ refused-number x n c l e w = subst Small e w
 
 pub line-number : (x y : BlockLine) → x ≡ y → SmallLine y → SmallLine x
 line-number x y e w = subst SmallLine (sym e) w
+
+pub met-small : (header b : List ℕ) (before : ℕ) → SmallLine (metLine header b before)
+met-small header b before = by-test (eqb before 0)
+  where
+    by-test : (t : Bool) → SmallLine (pick t (firstLine header b) (nextLine b (lineIn before)))
+    by-test true = first-small header b
+    by-test false = next-small b (lineIn before)
+
+pub met-first : (header b : List ℕ) (before : ℕ) → before ≡ 0 → firstLine header b ≡ metLine header b before
+met-first header b before e = sym (rw (eq-eqb before 0 e))
+
+pub met-next : (header b : List ℕ) (before : ℕ) → (before ≡ 0 → ⊥) → nextLine b (lineIn before) ≡ metLine header b before
+met-next header b before n = sym (rw (ne-eqb before 0 n))
+
+-- ---- a number that is handed back tells of the line that was answered
+
+low-part : (r q : ℕ) → r < 256 → (r + 256 * q) % 256 ≡ r
+low-part r q h = omega arith
+
+high-part : (r q : ℕ) → r < 256 → (r + 256 * q) / 256 ≡ q
+high-part r q h = omega arith
+
+middle-part : (p q : ℕ) → p < 65536 → (p + 65536 * q) % 65536 ≡ p
+middle-part p q h = omega arith
+
+above-part : (r q : ℕ) → r < 16777216 → (r + 16777216 * q) / 16777216 ≡ q
+above-part r q h = omega arith
+
+end-part : (e n : ℕ) → e < 1048576 → (e + 1048576 * n) % 1048576 ≡ e
+end-part e n h = omega arith
+
+next-part : (r n : ℕ) → r < 17592186044416 → (r + 17592186044416 * n) / 17592186044416 ≡ n
+next-part r n h = omega arith
+
+line-back : (x : BlockLine) → SmallLine x → lineIn (lineNumber x) ≡ x
+line-back x s =
+    let e : x .end < 1048576 = omega (arith, s .end) in
+    let a : lineNumber x ≡ x .kind + 256 * (x .phase + 65536 * (x .end + 1048576 * x .next)) = omega arith in
+    let b : lineNumber x ≡ (x .kind + 256 * x .phase) + 16777216 * (x .end + 1048576 * x .next) = omega arith in
+    let c : lineNumber x ≡ (x .kind + 256 * x .phase + 16777216 * x .end) + 17592186044416 * x .next = omega arith in
+    let kind : lineNumber x % 256 ≡ x .kind = rw a (low-part (x .kind) (x .phase + 65536 * (x .end + 1048576 * x .next)) (s .kind)) in
+    let phase : lineNumber x / 256 % 65536 ≡ x .phase = rw (a, high-part (x .kind) (x .phase + 65536 * (x .end + 1048576 * x .next)) (s .kind)) (middle-part (x .phase) (x .end + 1048576 * x .next) (s .phase)) in
+    let end : lineNumber x / 16777216 % 1048576 ≡ x .end = rw (b, above-part (x .kind + 256 * x .phase) (x .end + 1048576 * x .next) (omega (arith, s .kind, s .phase))) (end-part (x .end) (x .next) e) in
+    let next : lineNumber x / 17592186044416 ≡ x .next = rw (c, next-part (x .kind + 256 * x .phase + 16777216 * x .end) (x .next) (omega (arith, s .kind, s .phase, e))) in
+    rw (kind, phase, end, next)
+
+-- so a walk by the numbers is the walk of the block
+pub handed-back : (header b : List ℕ) (x : BlockLine) → SmallLine x → 1 ≤ x .kind → metLine header b (lineNumber x) ≡ nextLine b x
+handed-back header b x s h = sym (met-next header b (lineNumber x) (λ z. omega (arith, z, h))) ∙ ap (nextLine b) (line-back x s)

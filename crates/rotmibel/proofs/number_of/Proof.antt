@@ -5,14 +5,8 @@ use borrow.Author.Needs.{needs}
 use Rattle.rotmibel.proofs.number_of.Statement.{statement}
 use Rattle.rotmibel.proofs.number_of.Tie as tie
 
-enum-known-r : tie.Need-enum-known-r
-enum-known-r c = search needs
-
 parts-of-requires : tie.Need-parts-of-requires
 parts-of-requires c κs = let h = subst small (c .before .r .given .1) (c .before .before .before .pre) in (omega arith, h)
-
-enum-known-r-2 : tie.Need-enum-known-r-2
-enum-known-r-2 c = search needs
 
 parts-of-requires-2 : tie.Need-parts-of-requires-2
 parts-of-requires-2 c κs = let h = subst small (c .before .r2 .given .1) (c .before .before .before .pre) in (h, omega arith)
@@ -26,4 +20,4 @@ returns-2 c = c .parts-of2 .ensures ∙ sym (ap numberIn (c .before .before .r2 
 pub number-of-spec : {M : Type 1} → statement M
 number-of-spec =
     tie.close
-    (tie.spec enum-known-r parts-of-requires enum-known-r-2 parts-of-requires-2 returns returns-2)
+    (tie.spec (λ c. search needs) parts-of-requires (λ c. search needs) parts-of-requires-2 returns returns-2)

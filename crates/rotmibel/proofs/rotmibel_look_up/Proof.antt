@@ -7,9 +7,6 @@ use borrow.Author.Needs.{needs}
 use Rattle.rotmibel.proofs.rotmibel_look_up.Statement.{statement}
 use Rattle.rotmibel.proofs.rotmibel_look_up.Tie as tie
 
-look-up-requires : tie.Need-look-up-requires
-look-up-requires c κs = search needs
-
 parts-of-requires : tie.Need-parts-of-requires
 parts-of-requires c κs =
     let a = c .before .before .before .before .args in
@@ -19,4 +16,4 @@ returns : tie.Need-returns
 returns c = c .parts-of .ensures ∙ ap lookedNumber (c .before .look-up .ensures)
 
 pub rotmibel-look-up-spec : {M : Type 1} → statement M
-rotmibel-look-up-spec = tie.close (tie.spec look-up-requires parts-of-requires returns)
+rotmibel-look-up-spec = tie.close (tie.spec (λ c κs. search needs) parts-of-requires returns)

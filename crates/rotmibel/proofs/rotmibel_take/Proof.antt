@@ -7,19 +7,13 @@ use borrow.Author.Needs.{needs}
 use Rattle.rotmibel.proofs.rotmibel_take.Statement.{statement}
 use Rattle.rotmibel.proofs.rotmibel_take.Tie as tie
 
-take-line-requires : tie.Need-take-line-requires
-take-line-requires c κs = search needs
-
 parts-of-requires : tie.Need-parts-of-requires
 parts-of-requires c κs =
     let a = c .before .before .before .before .before .before .args in
     (omega (arith, ap (λ (x : Call). x .column) (c .before .before .take-line .ensures .0), column-low (a .room .now) (a .line .now)), omega arith)
 
-same-length : tie.Need-same-length
-same-length c = search needs
-
 returns : tie.Need-returns
 returns c = (c .parts-of .ensures ∙ ap (λ (x : Call). parts (x .number) (x .column) 0) (c .before .before .before .take-line .ensures .0), c .before .before .before .take-line .ensures .1)
 
 pub rotmibel-take-spec : {M : Type 1} → statement M
-rotmibel-take-spec = tie.close (tie.spec take-line-requires parts-of-requires same-length returns)
+rotmibel-take-spec = tie.close (tie.spec (λ c κs. search needs) parts-of-requires (λ c. search needs) returns)

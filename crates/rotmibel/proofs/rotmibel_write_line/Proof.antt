@@ -6,20 +6,14 @@ use borrow.Author.Needs.{needs}
 use Rattle.rotmibel.proofs.rotmibel_write_line.Statement.{statement}
 use Rattle.rotmibel.proofs.rotmibel_write_line.Tie as tie
 
-write-from-requires : tie.Need-write-from-requires
-write-from-requires c κs = search needs
-
 number-of-requires : tie.Need-number-of-requires
 number-of-requires c κs =
     let a = c .before .before .before .before .before .before .args in
     few (c .before .before .write-from .ensures) (omega (arith, from-size (a .from .now) (length (a .out .now)))) (omega (arith, from-bound (a .from .now) (length (a .out .now))))
-
-same-length : tie.Need-same-length
-same-length c = search needs
 
 returns : tie.Need-returns
 returns c = answered _ (c .number-of .ensures) (c .before .before .before .write-from .ensures)
 
 pub rotmibel-write-line-spec : {M : Type 1} → statement M
 rotmibel-write-line-spec =
-    tie.close (tie.spec write-from-requires number-of-requires same-length returns)
+    tie.close (tie.spec (λ c κs. search needs) number-of-requires (λ c. search needs) returns)

@@ -6,29 +6,11 @@ use Rattle.columns.specs.Table.{columnsOf}
 use Rattle.sample.proofs.read_sample.Statement.{statement}
 use Rattle.sample.proofs.read_sample.Tie as tie
 
-slice-aggregate-read-columns : tie.Need-slice-aggregate-read-columns
-slice-aggregate-read-columns c = search needs
-
-slice-aggregate-read-columns-2 : tie.Need-slice-aggregate-read-columns-2
-slice-aggregate-read-columns-2 c = search needs
-
-slice-aggregate-read-columns-3 : tie.Need-slice-aggregate-read-columns-3
-slice-aggregate-read-columns-3 c = search needs
-
-slice-aggregate-read-columns-4 : tie.Need-slice-aggregate-read-columns-4
-slice-aggregate-read-columns-4 c = search needs
-
-slice-aggregate-read-columns-5 : tie.Need-slice-aggregate-read-columns-5
-slice-aggregate-read-columns-5 c = search needs
-
-slice-aggregate-read-columns-6 : tie.Need-slice-aggregate-read-columns-6
-slice-aggregate-read-columns-6 c = search needs
-
 read-columns-requires : tie.Need-read-columns-requires
 unfolding columnsOf good widths allSlots allTexts
 read-columns-requires c κs =
     let l = c .before .before .before .before .before .before .before .pre in
-    (search needs, (search needs, record { fine = tt; line = rw l (lit≤ tt); low = rw l (lit≤ tt); same = refl; numbers = lit≤ tt; chars = lit≤ tt }))
+    (search needs, record { fine = tt; line = rw l (lit≤ tt); low = rw l (lit≤ tt); same = refl; numbers = lit≤ tt; chars = lit≤ tt })
 
 returns : tie.Need-returns
 unfolding columnsOf
@@ -38,11 +20,11 @@ pub read-sample-spec : {M : Type 1} → statement M
 read-sample-spec =
     tie.close
     (tie.spec
-    slice-aggregate-read-columns
-    slice-aggregate-read-columns-2
-    slice-aggregate-read-columns-3
-    slice-aggregate-read-columns-4
-    slice-aggregate-read-columns-5
-    slice-aggregate-read-columns-6
+    (λ c. search needs)
+    (λ c. search needs)
+    (λ c. search needs)
+    (λ c. search needs)
+    (λ c. search needs)
+    (λ c. search needs)
     read-columns-requires
     returns)

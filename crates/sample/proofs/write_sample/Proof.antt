@@ -6,22 +6,10 @@ use Rattle.columns.specs.Table.{columnsOf}
 use Rattle.sample.proofs.write_sample.Statement.{statement}
 use Rattle.sample.proofs.write_sample.Tie as tie
 
-slice-aggregate-write-columns : tie.Need-slice-aggregate-write-columns
-slice-aggregate-write-columns c = search needs
-
-slice-aggregate-write-columns-2 : tie.Need-slice-aggregate-write-columns-2
-slice-aggregate-write-columns-2 c = search needs
-
-slice-aggregate-write-columns-3 : tie.Need-slice-aggregate-write-columns-3
-slice-aggregate-write-columns-3 c = search needs
-
 write-columns-requires : tie.Need-write-columns-requires
 unfolding columnsOf good widths allSlots allTexts
 write-columns-requires c κs =
-    (search needs, (search needs, (refl, record { fine = tt; line = lit≤ tt; low = lit≤ tt; same = search needs; numbers = search needs; chars = search needs })))
-
-same-length : tie.Need-same-length
-same-length c = search needs
+    (search needs, (refl, record { fine = tt; line = lit≤ tt; low = lit≤ tt; same = search needs; numbers = search needs; chars = search needs }))
 
 returns : tie.Need-returns
 unfolding columnsOf
@@ -31,9 +19,9 @@ pub write-sample-spec : {M : Type 1} → statement M
 write-sample-spec =
     tie.close
     (tie.spec
-    slice-aggregate-write-columns
-    slice-aggregate-write-columns-2
-    slice-aggregate-write-columns-3
+    (λ c. search needs)
+    (λ c. search needs)
+    (λ c. search needs)
     write-columns-requires
-    same-length
+    (λ c. search needs)
     returns)

@@ -6,12 +6,6 @@ use Rattle.catalogue.proofs.decide.covered.Tie as tie
 use Rattle.catalogue.specs.Line.{deletionVersion}
 use Rattle.catalogue.specs.Taking.{covered}
 
-enum-told : tie.Need-enum-told
-enum-told c = search needs
-
-enum-known-seek : tie.Need-enum-known-seek
-enum-known-seek c = search needs
-
 entry-byte-requires : tie.Need-entry-byte-requires
 entry-byte-requires c κs =
     let d = c .before .before .before .before in
@@ -26,4 +20,4 @@ unfolding covered deletionVersion
 returns-2 c = rw (c .before .before .seek .given .1, ← c .entry-byte .ensures)
 
 pub covered-spec : {M : Type 1} → statement M
-covered-spec = tie.close (tie.spec enum-told enum-known-seek entry-byte-requires returns returns-2)
+covered-spec = tie.close (tie.spec (λ c. search needs) (λ c. search needs) entry-byte-requires returns returns-2)

@@ -5,46 +5,13 @@ use Rattle.catalogue.specs.Taking.{decide}
 use Rattle.catalogue.proofs.decide.decide.Statement.{statement}
 use Rattle.catalogue.proofs.decide.decide.Tie as tie
 
-enum-told : tie.Need-enum-told
-enum-told c = search needs
-
-shared-slice-read-covered : tie.Need-shared-slice-read-covered
-shared-slice-read-covered c = search needs
-
-covered-requires : tie.Need-covered-requires
-covered-requires c κs = search needs
-
 returns : tie.Need-returns
 unfolding version decide
 returns c = rw (c .before .before .before .enum-told .given .1, ← c .before .covered .ensures, c .if1 .taken)
 
-over-held-requires : tie.Need-over-held-requires
-over-held-requires c κs = search needs
-
-enum-told-2 : tie.Need-enum-told-2
-enum-told-2 c = search needs
-
-shared-slice-read-covered-2 : tie.Need-shared-slice-read-covered-2
-shared-slice-read-covered-2 c = search needs
-
-covered-requires-2 : tie.Need-covered-requires-2
-covered-requires-2 c κs = search needs
-
 returns-2 : tie.Need-returns-2
 unfolding version decide
 returns-2 c = rw (c .before .before .before .enum-told2 .given .1, ← c .before .covered2 .ensures, c .if2 .taken)
-
-shared-slice-read-over-deleted : tie.Need-shared-slice-read-over-deleted
-shared-slice-read-over-deleted c = search needs
-
-over-deleted-requires : tie.Need-over-deleted-requires
-over-deleted-requires c κs = search needs
-
-enum-told-3 : tie.Need-enum-told-3
-enum-told-3 c = search needs
-
-over-blank-requires : tie.Need-over-blank-requires
-over-blank-requires c κs = search needs
 
 returns-3 : tie.Need-returns-3
 unfolding version decide
@@ -62,19 +29,19 @@ pub decide-spec : {M : Type 1} → statement M
 decide-spec =
     tie.close
     (tie.spec
-    enum-told
-    shared-slice-read-covered
-    covered-requires
+    (λ c. search needs)
+    (λ c. search needs)
+    (λ c κs. search needs)
     returns
-    over-held-requires
-    enum-told-2
-    shared-slice-read-covered-2
-    covered-requires-2
+    (λ c κs. search needs)
+    (λ c. search needs)
+    (λ c. search needs)
+    (λ c κs. search needs)
     returns-2
-    shared-slice-read-over-deleted
-    over-deleted-requires
-    enum-told-3
-    over-blank-requires
+    (λ c. search needs)
+    (λ c κs. search needs)
+    (λ c. search needs)
+    (λ c κs. search needs)
     returns-3
     returns-4
     returns-5)

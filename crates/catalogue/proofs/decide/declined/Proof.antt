@@ -5,21 +5,6 @@ use Rattle.catalogue.proofs.decide.declined.Tie as tie
 use mathlib.Core.Path.{sym, ap}
 use Rattle.catalogue.specs.Taking.{declined}
 
-enum-known-deed : tie.Need-enum-known-deed
-enum-known-deed c = search needs
-
-enum-told : tie.Need-enum-told
-enum-told c = search needs
-
-enum-told-2 : tie.Need-enum-told-2
-enum-told-2 c = search needs
-
-enum-told-3 : tie.Need-enum-told-3
-enum-told-3 c = search needs
-
-enum-told-4 : tie.Need-enum-told-4
-enum-told-4 c = search needs
-
 returns : tie.Need-returns
 unfolding declined
 returns c = sym (ap declined (c .before .deed .given .1))
@@ -44,11 +29,11 @@ pub declined-spec : {M : Type 1} → statement M
 declined-spec =
     tie.close
     (tie.spec
-    enum-known-deed
-    enum-told
-    enum-told-2
-    enum-told-3
-    enum-told-4
+    (λ c. search needs)
+    (λ c. search needs)
+    (λ c. search needs)
+    (λ c. search needs)
+    (λ c. search needs)
     returns
     returns-2
     returns-3

@@ -38,9 +38,6 @@ key-at-requires c κs =
 look-requires : tie.Need-look-requires
 look-requires c κs = let d = c .before .before .before .before .before in held-open (d .args .room .now) (d .pre .0) (c .before .before .held-in .ensures)
 
-skips-requires : tie.Need-skips-requires
-skips-requires c κs = search needs
-
 returns : tie.Need-returns
 returns c =
     let s = c .before .skips .ensures (c .if1 .taken) in
@@ -73,7 +70,7 @@ look-both-spec =
     deletions-in-requires
     key-at-requires
     look-requires
-    skips-requires
+    (λ c κs. search needs)
     returns
     look-requires-2
     returns-2)

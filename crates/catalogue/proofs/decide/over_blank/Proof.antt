@@ -6,12 +6,6 @@ use Rattle.catalogue.proofs.decide.over_blank.Tie as tie
 use Rattle.catalogue.specs.Line.{version}
 use Rattle.catalogue.specs.Taking.{overBlank}
 
-enum-told : tie.Need-enum-told
-enum-told c = search needs
-
-enum-known-seek : tie.Need-enum-known-seek
-enum-known-seek c = search needs
-
 entry-byte-requires : tie.Need-entry-byte-requires
 entry-byte-requires c κs =
     let d = c .before .before .before .before in
@@ -27,4 +21,4 @@ returns-2 c = rw (c .before .before .seek .given .1, ← c .entry-byte .ensures)
 
 pub over-blank-spec : {M : Type 1} → statement M
 over-blank-spec =
-    tie.close (tie.spec enum-told enum-known-seek entry-byte-requires returns returns-2)
+    tie.close (tie.spec (λ c. search needs) (λ c. search needs) entry-byte-requires returns returns-2)

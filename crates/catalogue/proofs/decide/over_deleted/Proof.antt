@@ -7,12 +7,6 @@ use borrow.Author.Tests.{le-leb, lt-leb}
 use Rattle.catalogue.specs.Line.{version}
 use Rattle.catalogue.specs.Taking.{overDeleted}
 
-enum-told : tie.Need-enum-told
-enum-told c = search needs
-
-enum-known-seek : tie.Need-enum-known-seek
-enum-known-seek c = search needs
-
 entry-byte-requires : tie.Need-entry-byte-requires
 entry-byte-requires c κs =
     let d = c .before .before .before .before in
@@ -32,4 +26,4 @@ returns-3 c = rw (c .before .before .before .seek .given .1, ← c .before .entr
 
 pub over-deleted-spec : {M : Type 1} → statement M
 over-deleted-spec =
-    tie.close (tie.spec enum-told enum-known-seek entry-byte-requires returns returns-2 returns-3)
+    tie.close (tie.spec (λ c. search needs) (λ c. search needs) entry-byte-requires returns returns-2 returns-3)

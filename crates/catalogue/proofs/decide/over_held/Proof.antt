@@ -19,15 +19,6 @@ held-end c =
     let d = c .before .before .before .before .before .before .before .before .before in
     entry-end (d .args .of) (d .args .room .now) _ (held-place (c .before .before .before .before .before)) (d .pre .1) (c .entry-at .ensures) (d .pre .0)
 
-enum-told : tie.Need-enum-told
-enum-told c = search needs
-
-enum-known-seek : tie.Need-enum-known-seek
-enum-known-seek c = search needs
-
-shared-slice-read-if1 : tie.Need-shared-slice-read-if1
-shared-slice-read-if1 c = search needs
-
 entry-byte-requires : tie.Need-entry-byte-requires
 entry-byte-requires c κs =
     let d = c .before .before .before .before .before .before in
@@ -43,17 +34,8 @@ entry-at-requires c κs = (c .before .before .before .before .before .before .be
 add-end : tie.Need-add-end
 add-end c = omega (arith, held-end c)
 
-sub-same : tie.Need-sub-same
-sub-same c = search needs
-
-part-same-start : tie.Need-part-same-start
-part-same-start c = search needs
-
 part-same-end : tie.Need-part-same-end
 part-same-end c = held-end c
-
-same-requires : tie.Need-same-requires
-same-requires c κs = search needs
 
 returns-2 : tie.Need-returns-2
 unfolding overHeld version
@@ -77,17 +59,17 @@ pub over-held-spec : {M : Type 1} → statement M
 over-held-spec =
     tie.close
     (tie.spec
-    enum-told
-    enum-known-seek
-    shared-slice-read-if1
+    (λ c. search needs)
+    (λ c. search needs)
+    (λ c. search needs)
     entry-byte-requires
     returns
     entry-at-requires
     add-end
-    sub-same
-    part-same-start
+    (λ c. search needs)
+    (λ c. search needs)
     part-same-end
-    same-requires
+    (λ c κs. search needs)
     returns-2
     returns-3
     returns-4)

@@ -18,15 +18,6 @@ loop-holds c =
     let a = c .before .before .before .args in
     feeding-starts (a .room .now) (a .bytes .now) (a .ends .now)
 
-mul-end-in : tie.Need-mul-end-in Inv-loop μ-loop
-mul-end-in c = search needs
-
-shared-slice-read-end-in : tie.Need-shared-slice-read-end-in Inv-loop μ-loop
-shared-slice-read-end-in c = search needs
-
-end-in-requires : tie.Need-end-in-requires Inv-loop μ-loop
-end-in-requires c κs = search needs
-
 sub-take-line : tie.Need-sub-take-line Inv-loop μ-loop
 sub-take-line c = omega (arith, feeding-within (c .before .before .before .before .loop .inv) (c .before .end-in .ensures))
 
@@ -35,18 +26,6 @@ part-take-line-start c = omega (arith, feeding-within (c .before .before .before
 
 part-take-line-end : tie.Need-part-take-line-end Inv-loop μ-loop
 part-take-line-end c = omega (arith, feeding-within (c .before .before .before .before .loop .inv) (c .before .end-in .ensures))
-
-take-line-requires : tie.Need-take-line-requires Inv-loop μ-loop
-take-line-requires c κs = search needs
-
-counted-requires : tie.Need-counted-requires Inv-loop μ-loop
-counted-requires c κs = search needs
-
-add-i : tie.Need-add-i Inv-loop μ-loop
-add-i c = search needs
-
-loop-less : tie.Need-loop-less Inv-loop μ-loop
-loop-less c = search needs
 
 loop-again : tie.Need-loop-again Inv-loop μ-loop
 loop-again c =
@@ -67,16 +46,16 @@ take-all-spec =
     Inv-loop
     μ-loop
     loop-holds
-    mul-end-in
-    shared-slice-read-end-in
-    end-in-requires
+    (λ c. search needs)
+    (λ c. search needs)
+    (λ c κs. search needs)
     sub-take-line
     part-take-line-start
     part-take-line-end
-    take-line-requires
-    counted-requires
-    add-i
-    loop-less
+    (λ c κs. search needs)
+    (λ c κs. search needs)
+    (λ c. search needs)
+    (λ c. search needs)
     loop-again
     same-length
     returns)

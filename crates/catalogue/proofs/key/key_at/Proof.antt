@@ -9,11 +9,8 @@ triple-at-requires c κs = let d = c .before .before in (d .pre .0, d .pre .2 (c
 returns : tie.Need-returns
 returns c = rw (c .before .if1 .taken) (c .triple-at .ensures)
 
-pair-at-requires : tie.Need-pair-at-requires
-pair-at-requires c κs = search needs
-
 returns-2 : tie.Need-returns-2
 returns-2 c = rw (c .before .if1 .left) (c .pair-at .ensures)
 
 pub key-at-spec : {M : Type 1} → statement M
-key-at-spec = tie.close (tie.spec triple-at-requires returns pair-at-requires returns-2)
+key-at-spec = tie.close (tie.spec triple-at-requires returns (λ c κs. search needs) returns-2)

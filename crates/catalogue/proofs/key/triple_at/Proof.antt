@@ -5,30 +5,6 @@ use Rattle.catalogue.proofs.laws.section.Keys.{typed-key}
 use Rattle.catalogue.proofs.key.triple_at.Statement.{statement}
 use Rattle.catalogue.proofs.key.triple_at.Tie as tie
 
-add-type-at : tie.Need-add-type-at
-add-type-at c = search needs
-
-type-at-requires : tie.Need-type-at-requires
-type-at-requires c κs = search needs
-
-word2-requires : tie.Need-word2-requires
-word2-requires c κs = search needs
-
-word8-requires : tie.Need-word8-requires
-word8-requires c κs = search needs
-
-slice-aggregate-word8 : tie.Need-slice-aggregate-word8
-slice-aggregate-word8 c = search needs
-
-word8-requires-2 : tie.Need-word8-requires-2
-word8-requires-2 c κs = search needs
-
-slice-aggregate-word8-2 : tie.Need-slice-aggregate-word8-2
-slice-aggregate-word8-2 c = search needs
-
-word8-requires-3 : tie.Need-word8-requires-3
-word8-requires-3 c κs = search needs
-
 returns : tie.Need-returns
 returns c =
     let t = c .before .before .before .before .before .before in
@@ -40,12 +16,12 @@ pub triple-at-spec : {M : Type 1} → statement M
 triple-at-spec =
     tie.close
     (tie.spec
-    add-type-at
-    type-at-requires
-    word2-requires
-    word8-requires
-    slice-aggregate-word8
-    word8-requires-2
-    slice-aggregate-word8-2
-    word8-requires-3
+    (λ c. search needs)
+    (λ c κs. search needs)
+    (λ c κs. search needs)
+    (λ c κs. search needs)
+    (λ c. search needs)
+    (λ c κs. search needs)
+    (λ c. search needs)
+    (λ c κs. search needs)
     returns)

@@ -21,26 +21,11 @@ loop-holds c =
     let d = c .args in
     (typing-starts (drop (d .at) (d .s .now)), simp length-drop (omega arith), refl)
 
-add-b : tie.Need-add-b Inv-loop μ-loop
-add-b c = search needs
-
-shared-slice-read-b : tie.Need-shared-slice-read-b Inv-loop μ-loop
-shared-slice-read-b c = search needs
-
 returns : tie.Need-returns Inv-loop μ-loop
 unfolding typeAt
 returns c =
     let d = c .before .before .before in
     typing-stops (d .loop .inv .1) (d .loop .inv .0) (omega arith) (sym (getD-drop (d .before .args .at) (d .before .args .s .now) (d .loop .i) 0)) (c .if1 .taken)
-
-array-write-bytes : tie.Need-array-write-bytes Inv-loop μ-loop
-array-write-bytes c = search needs
-
-add-i : tie.Need-add-i Inv-loop μ-loop
-add-i c = search needs
-
-loop-less : tie.Need-loop-less Inv-loop μ-loop
-loop-less c = search needs
 
 loop-again : tie.Need-loop-again Inv-loop μ-loop
 loop-again c =
@@ -59,11 +44,11 @@ type-at-spec =
     Inv-loop
     μ-loop
     loop-holds
-    add-b
-    shared-slice-read-b
+    (λ c. search needs)
+    (λ c. search needs)
     returns
-    array-write-bytes
-    add-i
-    loop-less
+    (λ c. search needs)
+    (λ c. search needs)
+    (λ c. search needs)
     loop-again
     returns-2)

@@ -7,7 +7,7 @@ use native.Mathlib.Omega.{arith}
 use lib.ListN.{length}
 use borrow.Author.Tests.{lt-ltb, le-ltb, eq-eqb, ne-eqb}
 use Rattle.catalogue.specs.Assoc.{find, put, remove, AscFrom}
-use Rattle.formats.proofs.laws.Tri.{less, same, more, tri}
+use Rattle.columns.proofs.laws.Tri.{less, same, more, tri}
 use Rattle.catalogue.proofs.laws.assoc.Tri.{eq, ne, eq?}
 
 module _ {E : Type 0} (key : E → ℕ) where

@@ -7,7 +7,7 @@ use native.Mathlib.Omega.{arith}
 use lib.ListN.{length, take, drop}
 use borrow.Author.Tests.{lt-ltb, le-ltb}
 use Rattle.catalogue.specs.Assoc.{find, put, below}
-use Rattle.formats.proofs.laws.Tri.{less, same, more, tri}
+use Rattle.columns.proofs.laws.Tri.{less, same, more, tri}
 use Rattle.catalogue.proofs.laws.assoc.Assoc.{find-here, find-there, put-less, put-more}
 
 module _ {E : Type 0} (key : E → ℕ) where

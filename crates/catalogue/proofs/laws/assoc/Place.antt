@@ -6,7 +6,7 @@ use mathlib.Core.Option.{none, some}
 use native.Mathlib.Omega.{arith}
 use lib.ListN.{length, take, drop, getD, set}
 use Rattle.catalogue.specs.Assoc.{find, put, remove, below, AscFrom}
-use Rattle.formats.proofs.laws.Tri.{less, same, more, tri}
+use Rattle.columns.proofs.laws.Tri.{less, same, more, tri}
 use Rattle.catalogue.proofs.laws.assoc.Assoc.{find-here, find-there, find-below, put-same, put-more, remove-here, remove-there}
 use Rattle.catalogue.proofs.laws.assoc.Below.{below-less, below-not}
 

@@ -2,7 +2,7 @@
 use Prim.Native.Nat.{ℕ, _≤_, _<_}
 use mathlib.Core.Path.{_≡_}
 use native.Mathlib.Omega.{arith}
-use Rattle.formats.proofs.laws.Tri.{less, same, more, tri}
+use Rattle.columns.proofs.laws.Tri.{less, same, more, tri}
 
 pub data Le? (a b : ℕ) : Type 0 where
   le : a ≤ b → Le? a b

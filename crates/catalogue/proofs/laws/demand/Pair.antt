@@ -7,8 +7,8 @@ use native.Mathlib.Omega.{arith}
 use lib.Dec.{ltb, leb}
 use borrow.Author.Tests.{ltb-true, ltb-false, leb-true, leb-false, lt-ltb, le-ltb}
 use Rattle.columns.specs.Answer.{pick}
-use Rattle.formats.specs.Record.{sameBytes}
-use Rattle.formats.proofs.laws.Record.{same-is}
+use Rattle.columns.specs.Bytes.{sameBytes}
+use Rattle.columns.proofs.laws.Bytes.{same-is}
 use Rattle.catalogue.specs.declared.decide.Deed.{Deed}
 use Rattle.catalogue.specs.declared.decide.Deed.the-variants.{Leave, Hold, Note, Wipe, Link}
 use Rattle.catalogue.specs.declared.decide.Notice.the-variants.{Event, Delete}

@@ -6,9 +6,9 @@ use native.Mathlib.Omega.{arith}
 use borrow.Author.Tests.{leb-true}
 use lib.Dec.{leb, eqb}
 use lib.ListN.{length, take}
-use Rattle.columns.specs.Answer.{pick, Answer, ok, refusal, tooShort}
+use Rattle.columns.specs.Answer.{pick, Answer, ok, refusal, tooShort, wrongLength}
 use Rattle.columns.proofs.laws.Bounds.{columnOf}
-use Rattle.formats.specs.Cube.{Message, readLine, wrongLength}
+use Rattle.formats.specs.Cube.{Message, readLine}
 use Rattle.formats.proofs.laws.CubeRecordBack.{line-bound}
 use Rattle.catalogue.specs.declared.Call.{Call}
 use Rattle.catalogue.specs.declared.Looked.{Looked}

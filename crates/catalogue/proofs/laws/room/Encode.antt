@@ -9,7 +9,7 @@ use Rattle.catalogue.specs.Section.{count, flat, laid, said, capacity}
 use Rattle.catalogue.specs.Catalogue.{Catalogue, empty, parts, fromParts, onlyHeld, named}
 use Rattle.catalogue.specs.Room.{roomOf, roomSize, encode, contents, inOrder}
 use Rattle.catalogue.specs.Ordered.{Ordered}
-use Rattle.formats.proofs.laws.Record.{same-self}
+use Rattle.columns.proofs.laws.Bytes.{same-self}
 use Rattle.catalogue.proofs.laws.section.Laid.{laid-length, used-fits, said-laid}
 use Rattle.catalogue.proofs.laws.step.Good.{Good, good-back, good-fits, empty-good}
 

@@ -12,7 +12,7 @@ use Rattle.catalogue.specs.declared.section.Section.{Section}
 use Rattle.catalogue.specs.declared.section.Seek.{Seek}
 use Rattle.catalogue.specs.declared.decide.Deed.{Deed}
 use Rattle.catalogue.specs.declared.decide.Deed.the-variants.{Leave, Hold, Note, Wipe, Link}
-use Rattle.formats.specs.Record.{sameBytes}
+use Rattle.columns.specs.Bytes.{sameBytes}
 use Rattle.catalogue.specs.Answers.{replaced, repeated, outdated}
 use Rattle.catalogue.specs.Assoc.{find, put, AscFrom}
 use Rattle.catalogue.specs.Line.{link, kind, tripleKey, wideVersion, linkEntry, linkKey, linkVersion}

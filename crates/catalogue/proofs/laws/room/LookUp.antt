@@ -6,7 +6,7 @@ use native.Mathlib.Omega.{arith}
 use borrow.Author.Tests.{eq-eqb}
 use lib.ListN.{length}
 use lib.Seq.{take-all}
-use Rattle.formats.specs.Record.{wordOf}
+use Rattle.columns.specs.Word.{wordOf}
 use Rattle.catalogue.specs.declared.Looked.{Looked}
 use Rattle.catalogue.specs.declared.key.Key.{Key}
 use Rattle.catalogue.specs.declared.section.Seek.{Seek}

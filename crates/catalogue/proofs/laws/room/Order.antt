@@ -7,7 +7,7 @@ use native.Mathlib.Omega.{arith}
 use lib.ListN.{length, take, drop, getD, length-drop}
 use lib.Seq.{take-all, length-take-le}
 use Rattle.columns.specs.Answer.{pick}
-use Rattle.formats.specs.Record.{sameBytes}
+use Rattle.columns.specs.Bytes.{sameBytes}
 use Rattle.catalogue.specs.declared.section.Section.{Section}
 use Rattle.catalogue.specs.Line.{key, deletionKey, linkKey}
 use Rattle.catalogue.specs.Assoc.{AscFrom}

@@ -7,8 +7,8 @@ use lib.ListN.{length, take, drop, take-append-drop}
 use borrow.Author.Tests.{le-leb, lt-leb}
 use Rattle.columns.specs.Answer.{tooShort}
 use Rattle.formats.specs.Cube.{readLine}
-use Rattle.formats.specs.Record.{sameBytes}
-use Rattle.formats.proofs.laws.Record.{same-is}
+use Rattle.columns.specs.Bytes.{sameBytes}
+use Rattle.columns.proofs.laws.Bytes.{same-is}
 use Rattle.catalogue.specs.Answers.{notInOrder}
 use Rattle.catalogue.specs.Line.{refusedAt}
 use Rattle.catalogue.specs.Catalogue.{Catalogue}

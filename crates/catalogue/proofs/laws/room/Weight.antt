@@ -12,7 +12,7 @@ use lib.Dec.{ltb, eqb}
 use lib.ListN.{length, take, drop, getD, replicate, length-drop, take-append-drop, drop-of-length-le}
 use lib.Seq.{drop-cons, take-all, length-take-le}
 use Rattle.columns.specs.Answer.{pick, Answer, ok, refusal}
-use Rattle.columns.specs.Bytes.{barred}
+use Rattle.columns.specs.Bytes.{barred, sameBytes}
 use Rattle.formats.specs.Cube.{Message, readLine}
 use Rattle.formats.specs.Judge.{isEventAnswer, isEventLine, isLinkAnswer, isLinkLine}
 use Rattle.formats.proofs.laws.Judge.{event-line-is, link-line-is}
@@ -22,7 +22,6 @@ use Rattle.catalogue.specs.Line.{delete, blank, kindOf, kind, version, k
 use Rattle.catalogue.specs.Assoc.{find, below, AscFrom}
 use Rattle.catalogue.specs.Catalogue.{onlyHeld}
 use Rattle.catalogue.specs.Good.{every, isEvent, aboveDeletion, heldOk, deletionOk, isLink, linkOk}
-use Rattle.formats.specs.Record.{sameBytes}
 use Rattle.catalogue.specs.Zeros.{allZero}
 use Rattle.catalogue.specs.Entries.{entriesOf, entryKey, entryOf, Inside, Sought}
 use Rattle.catalogue.specs.Places.{heldIn, deletionsIn}

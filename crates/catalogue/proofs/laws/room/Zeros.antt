@@ -1,15 +1,16 @@
 -- Bytes that are all zero, one by one and to the end.
 use Prim.Native.Nat.{ℕ, zero, suc, _+_, _-_, _≤_, _<_}
 use mathlib.Core.Path.{_≡_, refl, sym, _∙_, ap, ap₂}
-use mathlib.Core.Bool.{Bool, true, false}
+use mathlib.Core.Bool.{Bool, true, false, _&&_}
 use mathlib.Core.List.{List, [], _∷_, _++_}
 use native.Mathlib.Omega.{arith}
 use borrow.Author.Tests.{eq-eqb, ne-eqb, eqb-true}
 use lib.Dec.{eqb}
 use lib.ListN.{length, take, drop, getD, replicate, length-drop}
 use lib.Seq.{drop-cons, drop-at}
-use Rattle.formats.specs.Record.{sameBytes}
-use Rattle.formats.proofs.laws.Record.{same-is, same-self}
+use Rattle.columns.specs.Answer.{pick}
+use Rattle.columns.specs.Bytes.{sameBytes}
+use Rattle.columns.proofs.laws.Bytes.{same-is, same-self}
 use Rattle.catalogue.specs.Zeros.{allZero}
 use Rattle.catalogue.proofs.laws.assoc.Tests.{and-both}
 
@@ -32,6 +33,30 @@ module _ (s : List ℕ) (to : ℕ) (fits : to ≤ length s) (i : ℕ) where
   pub zero-end : to ≤ i → allZero (take (to - i) (drop i s)) ≡ true
   unfolding allZero
   zero-end h = let e : to - i ≡ 0 = omega arith in rw e
+
+-- ---- bytes after a zero are all zero where each is as the one before it
+
+shift-case : (x n : ℕ) (u : List ℕ) (t : Bool) → eqb 0 x ≡ t → eqb x 0 ≡ t → (x ≡ 0 → sameBytes (take n (x ∷ u)) (take n u) ≡ allZero (take n u)) → pick t (sameBytes (take n (x ∷ u)) (take n u)) false ≡ t && allZero (take n u)
+shift-case x n u true e f h = h (eqb-true x 0 f)
+shift-case x n u false e f h = refl
+
+eqb-flip : (x : ℕ) → eqb 0 x ≡ eqb x 0
+eqb-flip zero = refl
+eqb-flip (suc x) = ne-eqb 0 (suc x) (λ e. omega arith) ∙ sym (ne-eqb (suc x) 0 (λ e. omega arith))
+
+zero-shift : (n : ℕ) (l : List ℕ) → n ≤ length l → sameBytes (take n (0 ∷ l)) (take n l) ≡ allZero (take n l)
+unfolding sameBytes allZero
+zero-shift zero l h = refl
+zero-shift (suc n) [] h = let y : ⊥ = omega arith in absurd y
+zero-shift (suc n) (x ∷ u) h = shift-case x n u (eqb 0 x) refl (sym (eqb-flip x)) (λ e. rw e (zero-shift n u (omega arith))) ∙ rw (eqb-flip x)
+
+pub zero-run : (s : List ℕ) (from to : ℕ) → from < to → to ≤ length s → getD s from 0 ≡ 0 → sameBytes (take (to - 1 - from) (drop from s)) (take (to - (from + 1)) (drop (from + 1) s)) ≡ allZero (take (to - from) (drop from s))
+zero-run s from to h k e =
+    let n : to - 1 - from ≡ to - (from + 1) = omega arith in
+    let f : suc from ≡ from + 1 = omega arith in
+    let d : drop from s ≡ 0 ∷ drop (from + 1) s = rw (drop-cons s from 0 (omega arith), e, f) in
+    rw (n) (ap (λ (l : List ℕ). sameBytes (take (to - (from + 1)) l) (take (to - (from + 1)) (drop (from + 1) s))) d ∙ zero-shift (to - (from + 1)) (drop (from + 1) s) (omega (arith, length-drop (from + 1) s)))
+    ∙ sym (zero-more s to k from h e)
 
 zero-list : (l : List ℕ) → allZero l ≡ true → l ≡ replicate (length l) 0
 unfolding allZero

@@ -9,12 +9,12 @@ use borrow.Author.Tests.{lt-ltb, le-ltb, eq-eqb, ne-eqb}
 use lib.Dec.{ltb, eqb}
 use lib.ListN.{length, take, drop, getD, length-drop, take-append-drop}
 use lib.Seq.{take-suc, take-length, getD-drop}
-use Rattle.formats.specs.Record.{wordOf}
-use Rattle.formats.proofs.laws.Words.{word-nil, word-cons, word-append}
+use Rattle.columns.specs.Word.{wordOf}
+use Rattle.columns.proofs.laws.Word.{word-nil, word-cons, word-append}
 use Rattle.catalogue.specs.declared.key.Key.{Key}
 use Rattle.catalogue.specs.Line.{typeAt, filled, keyOf}
 use Rattle.catalogue.specs.Keys.{two, eight, keyIn, inBase, keyNumber}
-use Rattle.formats.proofs.laws.Tri.{tri, less, same, more}
+use Rattle.columns.proofs.laws.Tri.{tri, less, same, more}
 use Rattle.catalogue.proofs.laws.section.Types.{type-short, filled-length}
 use Rattle.catalogue.proofs.laws.assoc.Tri.{le, gt, le?, eq, ne, eq?}
 

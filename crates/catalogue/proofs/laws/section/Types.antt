@@ -11,7 +11,7 @@ use lib.Seq.{take-suc, take-at, drop-at, drop-cons, set-at, length-take-le}
 use Rattle.columns.proofs.laws.Clear.{Clear, allowed-bounds}
 use Rattle.formats.specs.Link.{word}
 use Rattle.formats.proofs.laws.Link.{word-nil, word-stop, word-more, word-short}
-use Rattle.formats.proofs.laws.Words.{Bytes, clear-bytes, word-inj, Before, byte-order}
+use Rattle.columns.proofs.laws.Word.{Bytes, clear-bytes, word-inj, Before, byte-order}
 use Rattle.catalogue.specs.Line.{typeAt, filled, keyOf}
 use Rattle.columns.proofs.laws.Clear as clear
 

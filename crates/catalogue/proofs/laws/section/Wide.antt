@@ -4,7 +4,7 @@ use mathlib.Core.Path.{_≡_, refl}
 use mathlib.Core.List.{List, [], _∷_, List·Memᴰ, List·Memᴰ·head, List·Memᴰ·tail}
 use lib.ListN.{length, take, drop}
 use Rattle.catalogue.specs.Assoc.{put, remove}
-use Rattle.formats.proofs.laws.Tri.{less, same, more, tri}
+use Rattle.columns.proofs.laws.Tri.{less, same, more, tri}
 use Rattle.catalogue.proofs.laws.assoc.Tri.{eq, ne, eq?}
 use Rattle.catalogue.proofs.laws.assoc.Assoc.{put-less, put-same, put-more, remove-here, remove-there}
 use Rattle.catalogue.specs.Section.{Part}

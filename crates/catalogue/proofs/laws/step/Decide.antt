@@ -8,7 +8,7 @@ use lib.Dec.{ltb}
 use Rattle.columns.specs.Answer.{pick}
 use borrow.Author.Tests.{lt-ltb, le-leb, lt-leb}
 use Rattle.formats.specs.Cube.{readLine}
-use Rattle.formats.specs.Record.{sameBytes}
+use Rattle.columns.specs.Bytes.{sameBytes}
 use Rattle.catalogue.specs.declared.decide.Deed.{Deed}
 use Rattle.catalogue.specs.declared.decide.Deed.the-variants.{Leave, Hold, Note, Wipe, Link}
 use Rattle.catalogue.specs.declared.decide.Notice.{Notice}

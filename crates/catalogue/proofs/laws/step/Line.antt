@@ -13,7 +13,7 @@ use Rattle.columns.specs.Bytes.{inside, barred}
 use Rattle.columns.proofs.laws.Clear.{Clear, clear-take, clear-drop, clear-append, clear-none, none-clear}
 use Rattle.formats.specs.Cube.{Message, readLine}
 use Rattle.formats.proofs.laws.CubeFields.{line-fields}
-use Rattle.formats.proofs.laws.Words.{clear-bytes}
+use Rattle.columns.proofs.laws.Word.{clear-bytes}
 use Rattle.catalogue.specs.Line.{event, delete, blank, refused, kindOf, kind, Acceptable, pair, version, keyOf, key, deletion, deletionKey, deletionVersion}
 use Rattle.catalogue.specs.Good.{deletionOk}
 use Rattle.catalogue.proofs.laws.section.Types.{key-parts}

@@ -13,9 +13,9 @@ use Rattle.formats.specs.Link.{word, typeOf}
 use Rattle.formats.proofs.laws.Link.{word-front, word-take, type-word, type-append}
 use Rattle.formats.proofs.laws.LinkFields.{LinkFields, link-fields}
 use Rattle.formats.specs.Cube.{Message, readLine}
-use Rattle.formats.specs.Record.{sameBytes}
-use Rattle.formats.proofs.laws.Record.{same-is, same-self}
-use Rattle.formats.proofs.laws.Words.{clear-bytes}
+use Rattle.columns.specs.Bytes.{sameBytes}
+use Rattle.columns.proofs.laws.Bytes.{same-is, same-self}
+use Rattle.columns.proofs.laws.Word.{clear-bytes}
 use Rattle.catalogue.specs.Line.{Kind, event, delete, blank, link, refused, kindOf, kind, Acceptable, pair, keyOf, typeAt, linkType, triple, tripleKey, wideVersion, linkEntry, linkLine, linkKey, linkVersion}
 use Rattle.catalogue.specs.Good.{isLink, linkOk}
 use Rattle.formats.specs.Cube as cube

@@ -7,12 +7,6 @@ use Rattle.catalogue.specs.Taking.{limitedLink}
 use Rattle.catalogue.proofs.link.limited_link.Statement.{statement}
 use Rattle.catalogue.proofs.link.limited_link.Tie as tie
 
-enum-told : tie.Need-enum-told
-enum-told c = search needs
-
-enum-told-2 : tie.Need-enum-told-2
-enum-told-2 c = search needs
-
 returns : tie.Need-returns
 unfolding limitedLink
 returns c = λ (ks : List (List ℕ)). rw (c .before .enum-told2 .given .1, le-leb 64 _ (c .if1 .taken))
@@ -26,4 +20,4 @@ unfolding limitedLink
 returns-3 c = λ (ks : List (List ℕ)). rw (c .before .enum-told2 .given .1, lt-leb 64 _ (c .if1 .left))
 
 pub limited-link-spec : {M : Type 1} → statement M
-limited-link-spec = tie.close (tie.spec enum-told enum-told-2 returns returns-2 returns-3)
+limited-link-spec = tie.close (tie.spec (λ c. search needs) (λ c. search needs) returns returns-2 returns-3)

@@ -18,32 +18,14 @@ link-end c =
     let d = c .before .before .before .before .before .before in
     entry-end (d .args .of) (d .args .room .now) _ (link-place (c .before .before)) (d .pre .1) (c .entry-at .ensures) (d .pre .0)
 
-enum-told : tie.Need-enum-told
-enum-told c = search needs
-
-enum-known-seek : tie.Need-enum-known-seek
-enum-known-seek c = search needs
-
 entry-at-requires : tie.Need-entry-at-requires
 entry-at-requires c κs = (c .before .before .before .before .before .pre .0, omega (arith, link-place (c .before)))
 
 add-end : tie.Need-add-end
 add-end c = omega (arith, link-end c)
 
-word2-requires : tie.Need-word2-requires
-word2-requires c κs = search needs
-
-sub-word2 : tie.Need-sub-word2
-sub-word2 c = search needs
-
-part-word2-start : tie.Need-part-word2-start
-part-word2-start c = search needs
-
 part-word2-end : tie.Need-part-word2-end
 part-word2-end c = link-end (c .before)
-
-word2-requires-2 : tie.Need-word2-requires-2
-word2-requires-2 c κs = search needs
 
 returns : tie.Need-returns
 returns c =
@@ -52,17 +34,8 @@ returns c =
     let b = entry-part (d .args .of) (d .args .room .now) _ (link-place (e .before .before)) (d .pre .1) (e .entry-at .ensures) in
     rw (e .before .before .seek .given .1) (link-outdated (d .args .entry .now) b (c .before .before .before .word2 .ensures .0) (c .before .word22 .ensures .0) (c .if1 .taken))
 
-sub-same : tie.Need-sub-same
-sub-same c = search needs
-
-part-same-start : tie.Need-part-same-start
-part-same-start c = search needs
-
 part-same-end : tie.Need-part-same-end
 part-same-end c = link-end (c .before .before .before .before)
-
-same-requires : tie.Need-same-requires
-same-requires c κs = search needs
 
 returns-2 : tie.Need-returns-2
 returns-2 c =
@@ -88,20 +61,20 @@ pub over-link-spec : {M : Type 1} → statement M
 over-link-spec =
     tie.close
     (tie.spec
-    enum-told
-    enum-known-seek
+    (λ c. search needs)
+    (λ c. search needs)
     entry-at-requires
     add-end
-    word2-requires
-    sub-word2
-    part-word2-start
+    (λ c κs. search needs)
+    (λ c. search needs)
+    (λ c. search needs)
     part-word2-end
-    word2-requires-2
+    (λ c κs. search needs)
     returns
-    sub-same
-    part-same-start
+    (λ c. search needs)
+    (λ c. search needs)
     part-same-end
-    same-requires
+    (λ c κs. search needs)
     returns-2
     returns-3
     returns-4)

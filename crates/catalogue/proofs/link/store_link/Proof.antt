@@ -6,21 +6,6 @@ use Rattle.catalogue.proofs.laws.room.Linked.{store-asks, store-room, l
 use Rattle.catalogue.proofs.link.store_link.Statement.{statement}
 use Rattle.catalogue.proofs.link.store_link.Tie as tie
 
-enum-told : tie.Need-enum-told
-enum-told c = search needs
-
-enum-told-2 : tie.Need-enum-told-2
-enum-told-2 c = search needs
-
-enum-told-3 : tie.Need-enum-told-3
-enum-told-3 c = search needs
-
-enum-told-4 : tie.Need-enum-told-4
-enum-told-4 c = search needs
-
-enum-told-5 : tie.Need-enum-told-5
-enum-told-5 c = search needs
-
 end-of-requires : tie.Need-end-of-requires
 end-of-requires c κs =
     let d = c .before .before .before .before .before .before in
@@ -51,9 +36,6 @@ returns-4 c =
     let d = c .before .before .before .before .before in
     link-left (d .pre .0) (d .args .line .now) (d .pre .2) _ (sym (d .pre .4) ∙ c .enum-told4 .given .1) tt
 
-same-length : tie.Need-same-length
-same-length c = search needs
-
 returns-5 : tie.Need-returns-5
 returns-5 c =
     let d = c .before .before .before .before .before .before .before .before .before .before .before in
@@ -64,16 +46,16 @@ pub store-link-spec : {M : Type 1} → statement M
 store-link-spec =
     tie.close
     (tie.spec
-    enum-told
-    enum-told-2
-    enum-told-3
-    enum-told-4
-    enum-told-5
+    (λ c. search needs)
+    (λ c. search needs)
+    (λ c. search needs)
+    (λ c. search needs)
+    (λ c. search needs)
     end-of-requires
     put-requires
     returns
     returns-2
     returns-3
     returns-4
-    same-length
+    (λ c. search needs)
     returns-5)

@@ -5,16 +5,10 @@ use Rattle.catalogue.proofs.look_up.key_by.Statement.{statement}
 use Rattle.catalogue.proofs.look_up.key_by.Tie as tie
 use Rattle.catalogue.proofs.laws.room.LookUp.{key-pair}
 
-word2-requires : tie.Need-word2-requires
-word2-requires c κs = search needs
-
-word8-requires : tie.Need-word8-requires
-word8-requires c κs = search needs
-
 returns : tie.Need-returns
 returns c =
     let d = c .before .before .before .before in
     key-pair (d .args .source .now) (d .args .identifier .now) (d .pre .0) (d .pre .1) _ (c .before .word2 .ensures .0) (c .word8 .ensures .0) refl refl
 
 pub key-by-spec : {M : Type 1} → statement M
-key-by-spec = tie.close (tie.spec word2-requires word8-requires returns)
+key-by-spec = tie.close (tie.spec (λ c κs. search needs) (λ c κs. search needs) returns)

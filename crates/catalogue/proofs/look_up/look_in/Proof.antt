@@ -22,15 +22,6 @@ held-in-requires c κs = omega (arith, c .before .pre .long, room-size)
 look-requires : tie.Need-look-requires
 look-requires c κs = let d = c .before .before in held-open (d .args .room .now) (d .pre) (c .held-in .ensures)
 
-enum-known-place : tie.Need-enum-known-place
-enum-known-place c = search needs
-
-enum-told : tie.Need-enum-told
-enum-told c = search needs
-
-none-requires : tie.Need-none-requires
-none-requires c κs = search needs
-
 returns : tie.Need-returns
 returns c = rw (c .before .place .given .1) at (answer (c .before .before .before))
 
@@ -43,8 +34,8 @@ look-in-spec =
     (tie.spec
     held-in-requires
     look-requires
-    enum-known-place
-    enum-told
-    none-requires
+    (λ c. search needs)
+    (λ c. search needs)
+    (λ c κs. search needs)
     returns
     returns-2)

@@ -16,29 +16,14 @@ use Rattle.catalogue.proofs.laws.room.View.{checked-short, checked-diso
 in-order : (c : tie.Else2) → Ordered (c .before .before .before .before .before .before .before .args .room .now)
 in-order c = front-ordered (c .before .before .before .before .before .before .before .args .room .now) (c .before .before .before .if1 .left) (c .before .named-pairs .ensures) (c .if2 .left)
 
-none-requires : tie.Need-none-requires
-none-requires c κs = search needs
-
 returns : tie.Need-returns
 unfolding lookUp
 returns c =
     let r = c .before .before .before .before .before .args .room .now in
     rw (checked-short r (λ (n : ℕ). looked n 0) _ (omega (arith, c .before .if1 .taken, room-size))) (c .none .ensures)
 
-sub-named-pairs : tie.Need-sub-named-pairs
-sub-named-pairs c = search needs
-
-part-named-pairs-start : tie.Need-part-named-pairs-start
-part-named-pairs-start c = search needs
-
-part-named-pairs-end : tie.Need-part-named-pairs-end
-part-named-pairs-end c = search needs
-
 named-pairs-requires : tie.Need-named-pairs-requires
 named-pairs-requires c κs = front-length (c .before .before .before .before .before .args .room .now) (c .before .if1 .left)
-
-none-requires-2 : tie.Need-none-requires-2
-none-requires-2 c κs = search needs
 
 returns-2 : tie.Need-returns-2
 unfolding lookUp
@@ -47,24 +32,15 @@ returns-2 c =
     let h = c .before .before .before .before .if1 .left in
     rw (checked-disorder r (λ (n : ℕ). looked n 0) _ (omega (arith, room-size)) (front-disordered r h (c .before .before .named-pairs .ensures) (c .before .if2 .taken))) (c .none2 .ensures)
 
-none-requires-3 : tie.Need-none-requires-3
-none-requires-3 c κs = search needs
-
 returns-3 : tie.Need-returns-3
 unfolding lookUp
 returns-3 c =
     rw (checked-fine _ (λ (n : ℕ). looked n 0) _ (in-order (c .before .before)), ne-eqb _ 2 (c .before .if3 .taken)) (c .none3 .ensures)
 
-none-requires-4 : tie.Need-none-requires-4
-none-requires-4 c κs = search needs
-
 returns-4 : tie.Need-returns-4
 unfolding lookUp
 returns-4 c =
     rw (checked-fine _ (λ (n : ℕ). looked n 0) _ (in-order (c .before .before .before)), eq-eqb _ 2 (c .before .before .if3 .left), ne-eqb _ 8 (c .before .if4 .taken)) (c .none4 .ensures)
-
-key-by-requires : tie.Need-key-by-requires
-key-by-requires c κs = search needs
 
 look-in-requires : tie.Need-look-in-requires
 look-in-requires c κs = in-order (c .before .before .before)
@@ -78,18 +54,18 @@ pub look-up-spec : {M : Type 1} → statement M
 look-up-spec =
     tie.close
     (tie.spec
-    none-requires
+    (λ c κs. search needs)
     returns
-    sub-named-pairs
-    part-named-pairs-start
-    part-named-pairs-end
+    (λ c. search needs)
+    (λ c. search needs)
+    (λ c. search needs)
     named-pairs-requires
-    none-requires-2
+    (λ c κs. search needs)
     returns-2
-    none-requires-3
+    (λ c κs. search needs)
     returns-3
-    none-requires-4
+    (λ c κs. search needs)
     returns-4
-    key-by-requires
+    (λ c κs. search needs)
     look-in-requires
     returns-5)

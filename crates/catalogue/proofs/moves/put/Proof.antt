@@ -14,9 +14,6 @@ found-place c = rw (c .seek .given .1) at (c .before .before .before .before .pr
 new-place : (c : tie.After-seek2) → c .seek2 .given .0 .0 ≤ c .before .before .before .before .args .of .count
 new-place c = rw (c .seek2 .given .1) at (c .before .before .before .before .pre .5)
 
-enum-known-seek : tie.Need-enum-known-seek
-enum-known-seek c = search needs
-
 entry-at-requires : tie.Need-entry-at-requires
 entry-at-requires c κs = (c .before .before .before .before .before .before .pre .0, omega (arith, found-place (c .before .before)))
 
@@ -24,9 +21,6 @@ copy-in-requires : tie.Need-copy-in-requires
 copy-in-requires c κs =
     let d = c .before .before .before .before .before .before .before .before in
     omega (arith, c .before .entry-at .ensures, row-inside (d .args .of .size) _ (d .args .of .count) (found-place (c .before .before .before .before)), d .pre .0 .fits, d .pre .4)
-
-enum-known-seek-2 : tie.Need-enum-known-seek-2
-enum-known-seek-2 c = search needs
 
 entry-at-requires-2 : tie.Need-entry-at-requires-2
 entry-at-requires-2 c κs = (c .before .before .before .before .before .before .pre .0, new-place (c .before .before))
@@ -37,21 +31,9 @@ splice-requires c κs =
     let g = c .before .before .before .before in
     (omega (arith, c .before .entry-at2 .ensures, row-before (d .args .of .size) _ (d .args .of .count) (new-place g), d .pre .1), rw (g .seek2 .given .1) at (d .pre .2))
 
-add-set-count : tie.Need-add-set-count
-add-set-count c = search needs
-
-set-count-requires : tie.Need-set-count-requires
-set-count-requires c κs = search needs
-
-same-length : tie.Need-same-length
-same-length c = search needs
-
 returns : tie.Need-returns
 unfolding putIn
 returns c = rw (c .before .before .before .before .before .before .before .seek .given .1, ← c .before .before .before .before .entry-at .ensures) (c .before .before .copy-in .ensures)
-
-same-length-2 : tie.Need-same-length-2
-same-length-2 c = search needs
 
 returns-2 : tie.Need-returns-2
 unfolding putIn
@@ -63,15 +45,15 @@ pub put-spec : {M : Type 1} → statement M
 put-spec =
     tie.close
     (tie.spec
-    enum-known-seek
+    (λ c. search needs)
     entry-at-requires
     copy-in-requires
-    enum-known-seek-2
+    (λ c. search needs)
     entry-at-requires-2
     splice-requires
-    add-set-count
-    set-count-requires
-    same-length
+    (λ c. search needs)
+    (λ c κs. search needs)
+    (λ c. search needs)
     returns
-    same-length-2
+    (λ c. search needs)
     returns-2)

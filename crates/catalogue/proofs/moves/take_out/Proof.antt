@@ -7,22 +7,10 @@ use Prim.Native.Nat.{_-_}
 use Rattle.catalogue.specs.Moves.{takenOut}
 use Rattle.catalogue.proofs.laws.section.Rows.{row-inside}
 
-entry-at-requires : tie.Need-entry-at-requires
-entry-at-requires c κs = search needs
-
 cut-requires : tie.Need-cut-requires
 cut-requires c κs =
     let d = c .before .before .before .before in
     (omega (arith, c .before .entry-at .ensures, row-inside (d .args .of .size) (d .args .i) (d .args .of .count) (d .pre .4), d .pre .1), d .pre .2)
-
-sub-set-count : tie.Need-sub-set-count
-sub-set-count c = search needs
-
-set-count-requires : tie.Need-set-count-requires
-set-count-requires c κs = search needs
-
-same-length : tie.Need-same-length
-same-length c = search needs
 
 returns : tie.Need-returns
 unfolding takenOut
@@ -33,4 +21,4 @@ returns c =
 pub take-out-spec : {M : Type 1} → statement M
 take-out-spec =
     tie.close
-    (tie.spec entry-at-requires cut-requires sub-set-count set-count-requires same-length returns)
+    (tie.spec (λ c κs. search needs) cut-requires (λ c. search needs) (λ c κs. search needs) (λ c. search needs) returns)

@@ -12,15 +12,6 @@ use Rattle.catalogue.proofs.laws.room.Order.{front-length, front-ordere
 returns : tie.Need-returns
 returns c = sym (checked-short (c .before .before .args .room .now) (λ (n : ℕ). n) 0 (omega (arith, c .if1 .taken, room-size)))
 
-sub-named-pairs : tie.Need-sub-named-pairs
-sub-named-pairs c = search needs
-
-part-named-pairs-start : tie.Need-part-named-pairs-start
-part-named-pairs-start c = search needs
-
-part-named-pairs-end : tie.Need-part-named-pairs-end
-part-named-pairs-end c = search needs
-
 named-pairs-requires : tie.Need-named-pairs-requires
 named-pairs-requires c κs = front-length (c .before .before .before .args .room .now) (c .before .if1 .left)
 
@@ -40,9 +31,9 @@ check-order-spec =
     tie.close
     (tie.spec
     returns
-    sub-named-pairs
-    part-named-pairs-start
-    part-named-pairs-end
+    (λ c. search needs)
+    (λ c. search needs)
+    (λ c. search needs)
     named-pairs-requires
     returns-2
     returns-3)

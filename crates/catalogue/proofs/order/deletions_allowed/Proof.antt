@@ -36,26 +36,11 @@ judged c =
 loop-holds : tie.Need-loop-holds Inv-loop μ-loop
 loop-holds c = refl
 
-entry-at-requires : tie.Need-entry-at-requires Inv-loop μ-loop
-entry-at-requires c κs = search needs
-
 add-end : tie.Need-add-end Inv-loop μ-loop
 add-end c = omega (arith, deletion-end c)
 
-sub-first-barred : tie.Need-sub-first-barred Inv-loop μ-loop
-sub-first-barred c = search needs
-
-part-first-barred-start : tie.Need-part-first-barred-start Inv-loop μ-loop
-part-first-barred-start c = search needs
-
 part-first-barred-end : tie.Need-part-first-barred-end Inv-loop μ-loop
 part-first-barred-end c = deletion-end c
-
-first-barred-requires : tie.Need-first-barred-requires Inv-loop μ-loop
-first-barred-requires c κs = search needs
-
-add-i : tie.Need-add-i Inv-loop μ-loop
-add-i c = search needs
 
 loop-less : tie.Need-loop-less Inv-loop μ-loop
 loop-less c = omega (arith, c .before .before .before .before .if1 .taken)
@@ -87,13 +72,13 @@ deletions-allowed-spec =
     Inv-loop
     μ-loop
     loop-holds
-    entry-at-requires
+    (λ c κs. search needs)
     add-end
-    sub-first-barred
-    part-first-barred-start
+    (λ c. search needs)
+    (λ c. search needs)
     part-first-barred-end
-    first-barred-requires
-    add-i
+    (λ c κs. search needs)
+    (λ c. search needs)
     loop-less
     loop-again
     returns

@@ -34,42 +34,21 @@ weight c =
     let j = c .before .before .before in
     held-weighed (d .args .s .now) (d .pre .0) (d .pre .1) (d .args .i) (c .before .key-of .ensures) (d .pre .5) (judged j ∙ not-false (j .is-event .result) (c .before .before .if1 .left)) (c .met .result) (c .met .ensures)
 
-entry-at-requires : tie.Need-entry-at-requires
-entry-at-requires c κs = search needs
-
 add-end : tie.Need-add-end
 add-end c = omega (arith, held-end c)
 
-sub-is-event : tie.Need-sub-is-event
-sub-is-event c = search needs
-
-part-is-event-start : tie.Need-part-is-event-start
-part-is-event-start c = search needs
-
 part-is-event-end : tie.Need-part-is-event-end
 part-is-event-end c = held-end c
-
-is-event-requires : tie.Need-is-event-requires
-is-event-requires c κs = search needs
 
 returns : tie.Need-returns
 returns c =
     let j = c .before in
     (sym (weight-refused _ _ (judged j ∙ not-true (j .is-event .result) (c .if1 .taken))), omega arith)
 
-key-of-requires : tie.Need-key-of-requires
-key-of-requires c κs = search needs
-
 met-requires : tie.Need-met-requires
 met-requires c κs =
     let d = c .before .before .before .before .before .before in
     (d .pre .3, d .pre .6 ∙ sym (place-keyed (d .args .s .now) (d .pre .0) (d .pre .1) (d .args .i) (c .key-of .ensures)))
-
-enum-told : tie.Need-enum-told
-enum-told c = search needs
-
-enum-known-k : tie.Need-enum-known-k
-enum-known-k c = search needs
 
 entry-byte-requires : tie.Need-entry-byte-requires
 entry-byte-requires c κs =
@@ -103,17 +82,17 @@ pub held-weight-spec : {M : Type 1} → statement M
 held-weight-spec =
     tie.close
     (tie.spec
-    entry-at-requires
+    (λ c κs. search needs)
     add-end
-    sub-is-event
-    part-is-event-start
+    (λ c. search needs)
+    (λ c. search needs)
     part-is-event-end
-    is-event-requires
+    (λ c κs. search needs)
     returns
-    key-of-requires
+    (λ c κs. search needs)
     met-requires
-    enum-told
-    enum-known-k
+    (λ c. search needs)
+    (λ c. search needs)
     entry-byte-requires
     entry-byte-requires-2
     returns-2

@@ -6,26 +6,14 @@ use Rattle.catalogue.proofs.laws.room.Weight.{link-judged, link-misread
 use Rattle.catalogue.proofs.order.link_allowed.Statement.{statement}
 use Rattle.catalogue.proofs.order.link_allowed.Tie as tie
 
-shared-slice-read-end : tie.Need-shared-slice-read-end
-shared-slice-read-end c = search needs
-
 cast-end : tie.Need-cast-end
 cast-end c = omega (arith, c .shared-slice-known2 .given 0)
 
 add-end : tie.Need-add-end
 add-end c = omega (arith, c .shared-slice-known2 .given 0)
 
-sub-is-link : tie.Need-sub-is-link
-sub-is-link c = search needs
-
-part-is-link-start : tie.Need-part-is-link-start
-part-is-link-start c = search needs
-
 part-is-link-end : tie.Need-part-is-link-end
 part-is-link-end c = omega (arith, c .shared-slice-known2 .given 0, c .before .before .pre)
-
-is-link-requires : tie.Need-is-link-requires
-is-link-requires c κs = search needs
 
 zeros-requires : tie.Need-zeros-requires
 zeros-requires c κs =
@@ -46,13 +34,13 @@ pub link-allowed-spec : {M : Type 1} → statement M
 link-allowed-spec =
     tie.close
     (tie.spec
-    shared-slice-read-end
+    (λ c. search needs)
     cast-end
     add-end
-    sub-is-link
-    part-is-link-start
+    (λ c. search needs)
+    (λ c. search needs)
     part-is-link-end
-    is-link-requires
+    (λ c κs. search needs)
     zeros-requires
     returns
     returns-2)

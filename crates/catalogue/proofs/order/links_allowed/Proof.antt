@@ -33,17 +33,8 @@ judged c =
 loop-holds : tie.Need-loop-holds Inv-loop μ-loop
 loop-holds c = refl
 
-entry-at-requires : tie.Need-entry-at-requires Inv-loop μ-loop
-entry-at-requires c κs = search needs
-
 add-end : tie.Need-add-end Inv-loop μ-loop
 add-end c = omega (arith, link-end c)
-
-sub-link-allowed : tie.Need-sub-link-allowed Inv-loop μ-loop
-sub-link-allowed c = search needs
-
-part-link-allowed-start : tie.Need-part-link-allowed-start Inv-loop μ-loop
-part-link-allowed-start c = search needs
 
 part-link-allowed-end : tie.Need-part-link-allowed-end Inv-loop μ-loop
 part-link-allowed-end c = link-end c
@@ -53,9 +44,6 @@ link-allowed-requires c κs =
     let d = c .before .before .before .before .before .before in
     ap length (entry-part (d .args .of) (d .args .s .now) (c .before .before .before .before .loop .i) (c .before .before .if1 .taken) (d .pre .1) (c .before .entry-at .ensures))
     ∙ entry-length (d .args .of) (d .args .s .now) (d .pre .0) (c .before .before .before .before .loop .i) (c .before .before .if1 .taken) ∙ d .pre .1
-
-add-i : tie.Need-add-i Inv-loop μ-loop
-add-i c = search needs
 
 loop-less : tie.Need-loop-less Inv-loop μ-loop
 loop-less c = omega (arith, c .before .before .before .before .if1 .taken)
@@ -87,13 +75,13 @@ links-allowed-spec =
     Inv-loop
     μ-loop
     loop-holds
-    entry-at-requires
+    (λ c κs. search needs)
     add-end
-    sub-link-allowed
-    part-link-allowed-start
+    (λ c. search needs)
+    (λ c. search needs)
     part-link-allowed-end
     link-allowed-requires
-    add-i
+    (λ c. search needs)
     loop-less
     loop-again
     returns

@@ -33,9 +33,6 @@ loop-holds c =
     let a = c .before .args in
     walk-start (entriesOf (a .deletions) (a .s .now)) (entriesOf (a .held) (a .s .now))
 
-key-of-requires : tie.Need-key-of-requires Inv-loop μ-loop
-key-of-requires c κs = search needs
-
 advance-requires : tie.Need-advance-requires Inv-loop μ-loop
 advance-requires c κs =
     let a = c .before .before .before .before .before .args in
@@ -63,9 +60,6 @@ add-k : tie.Need-add-k Inv-loop μ-loop
 add-k c =
     omega (arith, c .before .held-weight .ensures .1, c .before .before .before .before .before .before .loop .inv .few, c .before .before .before .before .before .before .loop .inv .within)
 
-add-i : tie.Need-add-i Inv-loop μ-loop
-add-i c = search needs
-
 loop-less : tie.Need-loop-less Inv-loop μ-loop
 loop-less c =
     omega (arith, c .before .before .before .before .if1 .taken)
@@ -92,13 +86,13 @@ only-held-spec =
     Inv-loop
     μ-loop
     loop-holds
-    key-of-requires
+    (λ c κs. search needs)
     advance-requires
     held-weight-requires
     returns
     sub-k
     add-k
-    add-i
+    (λ c. search needs)
     loop-less
     loop-again
     returns-2)

@@ -18,20 +18,8 @@ returns c =
     let h : length (c .before .before .before .args .room .now) < roomSize = omega (arith, c .if1 .taken, room-size) in
     (rw checked-short, rw checked-short)
 
-sub-named-pairs : tie.Need-sub-named-pairs
-sub-named-pairs c = search needs
-
-part-named-pairs-start : tie.Need-part-named-pairs-start
-part-named-pairs-start c = search needs
-
-part-named-pairs-end : tie.Need-part-named-pairs-end
-part-named-pairs-end c = search needs
-
 named-pairs-requires : tie.Need-named-pairs-requires
 named-pairs-requires c κs = front-length (c .before .before .before .before .before .args .room .now) (c .before .before .if1 .left)
-
-same-length : tie.Need-same-length
-same-length c = search needs
 
 returns-2 : tie.Need-returns-2
 returns-2 c =
@@ -48,9 +36,6 @@ take-ordered-requires c κs =
     let n = c .before .before .named-pairs .ensures in
     (front-ordered r h n (c .before .if2 .left), front-named r h n (c .before .if2 .left))
 
-same-length-2 : tie.Need-same-length-2
-same-length-2 c = search needs
-
 returns-3 : tie.Need-returns-3
 returns-3 c = (c .before .before .before .take-ordered .ensures .call-is, c .before .before .before .take-ordered .ensures .room-is)
 
@@ -59,12 +44,12 @@ take-line-spec =
     tie.close
     (tie.spec
     returns
-    sub-named-pairs
-    part-named-pairs-start
-    part-named-pairs-end
+    (λ c. search needs)
+    (λ c. search needs)
+    (λ c. search needs)
     named-pairs-requires
-    same-length
+    (λ c. search needs)
     returns-2
     take-ordered-requires
-    same-length-2
+    (λ c. search needs)
     returns-3)

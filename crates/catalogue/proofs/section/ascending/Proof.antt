@@ -10,7 +10,7 @@ use lib.Dec.{ltb}
 use lib.ListN.{drop, getD}
 use Rattle.catalogue.specs.Good.{ascends}
 use Rattle.catalogue.specs.Entries.{entriesOf, entryKey}
-use Rattle.formats.proofs.laws.Tri.{tri, less, same, more}
+use Rattle.columns.proofs.laws.Tri.{tri, less, same, more}
 use Rattle.catalogue.proofs.laws.section.Rows.{entries-length}
 use Rattle.catalogue.proofs.laws.section.Search.{asc-start, asc-more, asc-stop, asc-end}
 
@@ -26,21 +26,6 @@ loop-holds : tie.Need-loop-holds Inv-loop μ-loop
 loop-holds c =
     let a = c .before .args in
     (omega arith, λ (h : 0 < a .of .count). asc-start (entryKey (a .of)) (entriesOf (a .of) (a .s .now)) (omega (arith, entries-length (a .of) (a .s .now))))
-
-sub-key-of : tie.Need-sub-key-of Inv-loop μ-loop
-sub-key-of c = search needs
-
-key-of-requires : tie.Need-key-of-requires Inv-loop μ-loop
-key-of-requires c κs = search needs
-
-key-of-requires-2 : tie.Need-key-of-requires-2 Inv-loop μ-loop
-key-of-requires-2 c κs = search needs
-
-before-requires : tie.Need-before-requires Inv-loop μ-loop
-before-requires c κs = search needs
-
-add-i : tie.Need-add-i Inv-loop μ-loop
-add-i c = search needs
 
 loop-less : tie.Need-loop-less Inv-loop μ-loop
 loop-less c = omega (arith, c .before .before .before .before .if1 .taken)
@@ -84,11 +69,11 @@ ascending-spec =
     Inv-loop
     μ-loop
     loop-holds
-    sub-key-of
-    key-of-requires
-    key-of-requires-2
-    before-requires
-    add-i
+    (λ c. search needs)
+    (λ c κs. search needs)
+    (λ c κs. search needs)
+    (λ c κs. search needs)
+    (λ c. search needs)
     loop-less
     loop-again
     returns

@@ -13,9 +13,6 @@ byte-inside c =
     let d = c .before .before in
     omega (arith, c .entry-at .ensures, entry-fits (d .args .of) (d .args .s .now) (d .pre .0) (d .args .i) (d .pre .1), d .pre .2)
 
-entry-at-requires : tie.Need-entry-at-requires
-entry-at-requires c κs = search needs
-
 add-result : tie.Need-add-result
 add-result c = omega (arith, byte-inside c)
 
@@ -28,4 +25,4 @@ returns c =
     rw (c .before .entry-at .ensures) (sym (entry-byte (d .args .of) (d .args .s .now) (d .pre .0) (d .args .i) (d .pre .1) (d .args .j) (d .pre .2)))
 
 pub entry-byte-spec : {M : Type 1} → statement M
-entry-byte-spec = tie.close (tie.spec entry-at-requires add-result shared-slice-read-result returns)
+entry-byte-spec = tie.close (tie.spec (λ c κs. search needs) add-result shared-slice-read-result returns)

@@ -13,9 +13,6 @@ fits c =
     let d = c .before .before in
     omega (arith, c .entry-at .ensures, entry-fits (d .args .of) (d .args .s .now) (d .pre .0) (d .args .i) (d .pre .1))
 
-entry-at-requires : tie.Need-entry-at-requires
-entry-at-requires c κs = search needs
-
 add-key-at : tie.Need-add-key-at
 add-key-at c = omega (arith, fits (c .before), c .before .before .before .pre .0 .source)
 
@@ -33,4 +30,4 @@ returns c =
     c .key-at .ensures ∙ rw (c .before .before .before .entry-at .ensures) (entry-key (d .args .of) (d .args .s .now) (d .pre .0) (d .args .i) (d .pre .1))
 
 pub key-of-spec : {M : Type 1} → statement M
-key-of-spec = tie.close (tie.spec entry-at-requires add-key-at add-key-at-2 key-at-requires returns)
+key-of-spec = tie.close (tie.spec (λ c κs. search needs) add-key-at add-key-at-2 key-at-requires returns)

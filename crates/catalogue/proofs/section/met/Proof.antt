@@ -14,12 +14,6 @@ returns c =
     let d = c .before .before .before in
     (d .pre .1, λ h q. omega (arith, entries-length (d .args .of) (d .args .s .now), c .if1 .taken))
 
-key-of-requires : tie.Need-key-of-requires
-key-of-requires c κs = search needs
-
-equal-requires : tie.Need-equal-requires
-equal-requires c κs = search needs
-
 returns-2 : tie.Need-returns-2
 returns-2 c =
     let d = c .before .before .before .before .before .before in (
@@ -37,4 +31,4 @@ returns-3 c = (
 )
 
 pub met-spec : {M : Type 1} → statement M
-met-spec = tie.close (tie.spec returns key-of-requires equal-requires returns-2 returns-3)
+met-spec = tie.close (tie.spec returns (λ c κs. search needs) (λ c κs. search needs) returns-2 returns-3)

@@ -23,26 +23,8 @@ loop-holds c =
     let a = c .before .args in
     whole-stretch (entryKey (a .of)) (keyNumber (a .key)) (entriesOf (a .of) (a .s .now)) (c .before .pre .1) (a .of .count) (entries-length (a .of) (a .s .now))
 
-sub-mid : tie.Need-sub-mid Inv-loop μ-loop
-sub-mid c = search needs
-
-add-mid : tie.Need-add-mid Inv-loop μ-loop
-add-mid c = search needs
-
 key-of-requires : tie.Need-key-of-requires Inv-loop μ-loop
 key-of-requires c κs = (search needs, omega (arith, c .before .loop .inv .end))
-
-before-requires : tie.Need-before-requires Inv-loop μ-loop
-before-requires c κs = search needs
-
-add-choose : tie.Need-add-choose Inv-loop μ-loop
-add-choose c = search needs
-
-choose-requires : tie.Need-choose-requires Inv-loop μ-loop
-choose-requires c κs = search needs
-
-choose-requires-2 : tie.Need-choose-requires-2 Inv-loop μ-loop
-choose-requires-2 c κs = search needs
 
 loop-less : tie.Need-loop-less Inv-loop μ-loop
 loop-less c =
@@ -69,13 +51,13 @@ place-spec =
     Inv-loop
     μ-loop
     loop-holds
-    sub-mid
-    add-mid
+    (λ c. search needs)
+    (λ c. search needs)
     key-of-requires
-    before-requires
-    add-choose
-    choose-requires
-    choose-requires-2
+    (λ c κs. search needs)
+    (λ c. search needs)
+    (λ c κs. search needs)
+    (λ c κs. search needs)
     loop-less
     loop-again
     returns)

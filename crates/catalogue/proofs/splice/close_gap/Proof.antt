@@ -15,27 +15,6 @@ abbrev μ-loop : tie.MeasureT-loop
 loop-holds : tie.Need-loop-holds Inv-loop μ-loop
 loop-holds c = pasting-starts _ _ _ _
 
-add-room : tie.Need-add-room Inv-loop μ-loop
-add-room c = search needs
-
-add-room-2 : tie.Need-add-room-2 Inv-loop μ-loop
-add-room-2 c = search needs
-
-slice-read-room : tie.Need-slice-read-room Inv-loop μ-loop
-slice-read-room c = search needs
-
-add-room-3 : tie.Need-add-room-3 Inv-loop μ-loop
-add-room-3 c = search needs
-
-slice-write-room : tie.Need-slice-write-room Inv-loop μ-loop
-slice-write-room c = search needs
-
-add-j : tie.Need-add-j Inv-loop μ-loop
-add-j c = search needs
-
-loop-less : tie.Need-loop-less Inv-loop μ-loop
-loop-less c = search needs
-
 loop-again : tie.Need-loop-again Inv-loop μ-loop
 loop-again c =
     let l = c .before .before .loop in
@@ -54,13 +33,13 @@ close-gap-spec =
     Inv-loop
     μ-loop
     loop-holds
-    add-room
-    add-room-2
-    slice-read-room
-    add-room-3
-    slice-write-room
-    add-j
-    loop-less
+    (λ c. search needs)
+    (λ c. search needs)
+    (λ c. search needs)
+    (λ c. search needs)
+    (λ c. search needs)
+    (λ c. search needs)
+    (λ c. search needs)
     loop-again
     same-length
     returns)

@@ -5,15 +5,6 @@ use borrow.Author.Needs.{needs}
 use Rattle.catalogue.proofs.splice.splice.Statement.{statement}
 use Rattle.catalogue.proofs.splice.splice.Tie as tie
 
-open-gap-requires : tie.Need-open-gap-requires
-open-gap-requires c κs = search needs
-
-copy-in-requires : tie.Need-copy-in-requires
-copy-in-requires c κs = search needs
-
-same-length : tie.Need-same-length
-same-length c = search needs
-
 returns : tie.Need-returns
 returns c =
     let d = c .before .before .before .before .before .before .before .before .before .before in
@@ -21,4 +12,4 @@ returns c =
     ∙ rw (c .before .before .before .before .before .before .open-gap .ensures) (filled (now (d .args .room)) (now (d .args .s)) (d .args .at) (d .args .used) (d .pre .0) (d .pre .1))
 
 pub splice-spec : {M : Type 1} → statement M
-splice-spec = tie.close (tie.spec open-gap-requires copy-in-requires same-length returns)
+splice-spec = tie.close (tie.spec (λ c κs. search needs) (λ c κs. search needs) (λ c. search needs) returns)

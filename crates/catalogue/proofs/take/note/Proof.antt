@@ -13,16 +13,10 @@ used-in-requires c κs =
 deletion-requires : tie.Need-deletion-requires
 deletion-requires c κs = c .before .before .before .before .pre .2 .long
 
-slice-aggregate-put : tie.Need-slice-aggregate-put
-slice-aggregate-put c = search needs
-
 put-requires : tie.Need-put-requires
 put-requires c κs =
     let d = c .before .before .before .before .before .before .before in
     note-asks (d .pre .0) (d .pre .2) (d .pre .1) (c .before .before .before .used-in .ensures) (c .before .before .deletion .ensures)
-
-same-length : tie.Need-same-length
-same-length c = search needs
 
 returns : tie.Need-returns
 returns c =
@@ -35,7 +29,7 @@ note-spec =
     (tie.spec
     used-in-requires
     deletion-requires
-    slice-aggregate-put
+    (λ c. search needs)
     put-requires
-    same-length
+    (λ c. search needs)
     returns)

@@ -53,9 +53,6 @@ link-entry-requires c κs =
     let d = c .before .before .before .before .before .before in
     link-whole (d .args .line .now) (d .pre .2) .short
 
-slice-aggregate-triple-at : tie.Need-slice-aggregate-triple-at
-slice-aggregate-triple-at c = search needs
-
 triple-at-requires : tie.Need-triple-at-requires
 triple-at-requires c κs =
     let d = c .before .before .before .before .before .before .before .before .before in
@@ -64,9 +61,6 @@ triple-at-requires c κs =
 
 look-requires : tie.Need-look-requires
 look-requires c κs = links-open (c .before .before .before .before .before .before .before .before .before .before .pre .0) (c .before .before .before .before .links-in .ensures)
-
-slice-aggregate-over-link : tie.Need-slice-aggregate-over-link
-slice-aggregate-over-link c = search needs
 
 over-link-requires : tie.Need-over-link-requires
 over-link-requires c κs =
@@ -78,22 +72,10 @@ over-link-requires c κs =
       ap length (c .before .before .before .before .before .before .link-entry .ensures) ∙ entry-length (d .args .line .now) (link-whole (d .args .line .now) (d .pre .2)),
     )
 
-limited-link-requires : tie.Need-limited-link-requires
-limited-link-requires c κs = search needs
-
-slice-aggregate-store-link : tie.Need-slice-aggregate-store-link
-slice-aggregate-store-link c = search needs
-
 store-link-requires : tie.Need-store-link-requires
 store-link-requires c κs =
     let d = c .before .before .before .before .before .before .before .before .before .before .before .before .before .before .before .before .before in
     (d .pre .0, c .before .before .before .before .before .before .before .before .before .before .before .links-in .ensures, d .pre .2, sought (c .before .before .before .before .before .before), decided (c .before .before), c .before .before .before .before .before .before .before .before .before .before .link-entry .ensures)
-
-answer-of-requires : tie.Need-answer-of-requires
-answer-of-requires c κs = search needs
-
-same-length : tie.Need-same-length
-same-length c = search needs
 
 returns : tie.Need-returns
 returns c =
@@ -108,14 +90,14 @@ take-link-spec =
     deletions-in-requires
     links-in-requires
     link-entry-requires
-    slice-aggregate-triple-at
+    (λ c. search needs)
     triple-at-requires
     look-requires
-    slice-aggregate-over-link
+    (λ c. search needs)
     over-link-requires
-    limited-link-requires
-    slice-aggregate-store-link
+    (λ c κs. search needs)
+    (λ c. search needs)
     store-link-requires
-    answer-of-requires
-    same-length
+    (λ c κs. search needs)
+    (λ c. search needs)
     returns)

@@ -23,32 +23,20 @@ deed c =
     let f = c .before .before .before .look-both in
     decided (d .pre .0) (f .ensures) (d .args .notice) (d .pre .2) (d .pre .1) (c .before .decide .ensures) (c .limited .ensures (entriesOf (f .result .deletions) (d .args .room .now)) (entriesOf (f .result .held) (d .args .room .now)))
 
-look-both-requires : tie.Need-look-both-requires
-look-both-requires c κs = search needs
-
 decide-requires : tie.Need-decide-requires
 decide-requires c κs =
     let d = c .before .before .before .before .before in
     (known-placed (d .args .room .now) (d .pre .0) (d .args .line .now) (c .before .look-both .result) (c .before .look-both .ensures), whole (d .args .line .now) (acceptable d) .long)
-
-limited-requires : tie.Need-limited-requires
-limited-requires c κs = search needs
 
 carry-out-requires : tie.Need-carry-out-requires
 carry-out-requires c κs =
     let d = c .before .before .before .before .before .before .before .before in
     (d .pre .0, c .before .before .before .before .look-both .ensures, deed (c .before), notice-apart (d .args .line .now) (d .args .notice) (d .pre .2))
 
-answer-of-requires : tie.Need-answer-of-requires
-answer-of-requires c κs = search needs
-
 named-after-requires : tie.Need-named-after-requires
 named-after-requires c κs =
     let d = c .before .before .before .before .before .before .before .before .before .before .before .before in
     omega (arith, d .pre .1, few-named (d .pre .0))
-
-same-length : tie.Need-same-length
-same-length c = search needs
 
 returns : tie.Need-returns
 returns c =
@@ -60,11 +48,11 @@ pub take-notice-spec : {M : Type 1} → statement M
 take-notice-spec =
     tie.close
     (tie.spec
-    look-both-requires
+    (λ c κs. search needs)
     decide-requires
-    limited-requires
+    (λ c κs. search needs)
     carry-out-requires
-    answer-of-requires
+    (λ c κs. search needs)
     named-after-requires
-    same-length
+    (λ c. search needs)
     returns)

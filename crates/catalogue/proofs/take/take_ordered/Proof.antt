@@ -19,18 +19,6 @@ is-notice c =
     let g = c .before .before .read .given in
     there-kind (c .before .before .before .before .before .before .before .args .line .now) (l .result) (l .ensures) (g .0 .0) (g .0 .1 .0) (g .0 .1 .1 .0) (g .0 .1 .1 .1 .0) (g .1) (c .if1 .left)
 
-read-line-requires : tie.Need-read-line-requires
-read-line-requires c κs = search needs
-
-enum-known-read : tie.Need-enum-known-read
-enum-known-read c = search needs
-
-enum-told : tie.Need-enum-told
-enum-told c = search needs
-
-refused-requires : tie.Need-refused-requires
-refused-requires c κs = search needs
-
 returns : tie.Need-returns
 returns c =
     let d = c .before .before .before .before .before .before in
@@ -45,9 +33,6 @@ take-link-requires c κs =
     let g = c .before .before .before .read .given in
     (d .pre .0, d .pre .1, there-link (d .args .line .now) (l .result) (l .ensures) (g .0 .0) (g .0 .1 .0) (g .0 .1 .1 .0) (g .0 .1 .1 .1 .0) (g .1) (c .before .if1 .taken))
 
-same-length : tie.Need-same-length
-same-length c = search needs
-
 returns-2 : tie.Need-returns-2
 returns-2 c = c .before .before .take-link .ensures
 
@@ -57,16 +42,10 @@ shared-slice-read-notice-of c =
     let e = c .before .before in
     omega (arith, whole l (notice-ok l (noticeOf (e .before .before .read .given .0 .0) (getD l 12 0)) (is-notice e)) .long)
 
-notice-of-requires : tie.Need-notice-of-requires
-notice-of-requires c κs = search needs
-
 take-notice-requires : tie.Need-take-notice-requires
 take-notice-requires c κs =
     let d = c .before .before .before .before .before .before .before .before .before .before in
     (d .pre .0, d .pre .1, rw (c .notice-of .ensures) (is-notice (c .before .before .before)))
-
-same-length-2 : tie.Need-same-length-2
-same-length-2 c = search needs
 
 returns-3 : tie.Need-returns-3
 returns-3 c = c .before .before .take-notice .ensures
@@ -75,16 +54,16 @@ pub take-ordered-spec : {M : Type 1} → statement M
 take-ordered-spec =
     tie.close
     (tie.spec
-    read-line-requires
-    enum-known-read
-    enum-told
-    refused-requires
+    (λ c κs. search needs)
+    (λ c. search needs)
+    (λ c. search needs)
+    (λ c κs. search needs)
     returns
     take-link-requires
-    same-length
+    (λ c. search needs)
     returns-2
     shared-slice-read-notice-of
-    notice-of-requires
+    (λ c κs. search needs)
     take-notice-requires
-    same-length-2
+    (λ c. search needs)
     returns-3)

@@ -13,12 +13,6 @@ rest c =
     let d = c .before .before .before .before .before .before .before .before .before .before .before in
     between (d .pre .0) (d .pre .1) (d .pre .2) (c .before .before .before .before .before .in-held .given .1) (c .before .before .used-in .ensures) (c .take-out .ensures)
 
-enum-known-in-held : tie.Need-enum-known-in-held
-enum-known-in-held c = search needs
-
-enum-told : tie.Need-enum-told
-enum-told c = search needs
-
 returns : tie.Need-returns
 returns c =
     let d = c .before .before .before .before .before .before in
@@ -45,9 +39,6 @@ note-requires c κs =
     let b = rest (c .before .before .before .before .before .before) in
     (b .ordered, c .before .deletions-in .ensures, b .able)
 
-same-length : tie.Need-same-length
-same-length c = search needs
-
 returns-2 : tie.Need-returns-2
 returns-2 c =
     c .before .before .note .ensures ∙ rest (c .before .before .before .before .before .before .before .before .before) .done-is
@@ -56,13 +47,13 @@ pub wipe-spec : {M : Type 1} → statement M
 wipe-spec =
     tie.close
     (tie.spec
-    enum-known-in-held
-    enum-told
+    (λ c. search needs)
+    (λ c. search needs)
     returns
     used-in-requires
     take-out-requires
     held-in-requires
     deletions-in-requires
     note-requires
-    same-length
+    (λ c. search needs)
     returns-2)

@@ -16,17 +16,11 @@ returns-2 c =
     let a = c .before .before .args in
     barred-high (inside (a .from) (a .to) (a .column)) (a .b) (c .if2 .taken)
 
-is-bracket-requires : tie.Need-is-bracket-requires
-is-bracket-requires c κs = search needs
-
 returns-3 : tie.Need-returns-3
 returns-3 c =
     let a = c .before .before .before .before .args in
     barred-plain (inside (a .from) (a .to) (a .column)) (a .b) (c .before .before .before .if1 .left) (c .before .before .if2 .left)
     (sym (c .before .is-bracket .ensures) ∙ not-true _ (c .if3 .taken))
-
-is-inside-requires : tie.Need-is-inside-requires
-is-inside-requires c κs = search needs
 
 returns-4 : tie.Need-returns-4
 returns-4 c =
@@ -38,4 +32,4 @@ returns-4 c =
 pub is-barred-spec : {M : Type 1} → statement M
 is-barred-spec =
     tie.close
-    (tie.spec returns returns-2 is-bracket-requires returns-3 is-inside-requires returns-4)
+    (tie.spec returns returns-2 (λ c κs. search needs) returns-3 (λ c κs. search needs) returns-4)

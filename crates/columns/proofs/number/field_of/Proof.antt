@@ -8,31 +8,16 @@ use Rattle.columns.proofs.number.field_of.Statement.{statement}
 use Rattle.columns.specs.declared.number.Field.the-variants as F
 use Rattle.columns.proofs.number.field_of.Tie as tie
 
-enum-told : tie.Need-enum-told
-enum-told c = search needs
-
-enum-known-s : tie.Need-enum-known-s
-enum-known-s c = search needs
-
 with-sign-requires : tie.Need-with-sign-requires
 with-sign-requires c κs =
     omega (arith, ap magnitude (c .before .s .given .1), c .before .before .before .pre)
-
-enum-told-2 : tie.Need-enum-told-2
-enum-told-2 c = search needs
-
-returns : tie.Need-returns
-returns c = search needs
 
 returns-2 : tie.Need-returns-2
 returns-2 c =
     rw (toZ-ofZ w64 (c .with-sign .result) (record { sfits = c .with-sign .ok }))
     (ap F.Value (c .with-sign .ensures) ∙ sym (ap value (c .before .before .s .given .1)))
 
-returns-3 : tie.Need-returns-3
-returns-3 c = search needs
-
 pub field-of-spec : {M : Type 1} → statement M
 field-of-spec =
     tie.close
-    (tie.spec enum-told enum-known-s with-sign-requires enum-told-2 returns returns-2 returns-3)
+    (tie.spec (λ c. search needs) (λ c. search needs) with-sign-requires (λ c. search needs) (λ c. search needs) returns-2 (λ c. search needs))

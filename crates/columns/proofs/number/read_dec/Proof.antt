@@ -5,18 +5,6 @@ use Rattle.columns.proofs.laws.Number.{dec-room, dec-below, dec-parts}
 use Rattle.columns.proofs.number.read_dec.Statement.{statement}
 use Rattle.columns.proofs.number.read_dec.Tie as tie
 
-add-end : tie.Need-add-end
-add-end c = search needs
-
-add-point : tie.Need-add-point
-add-point c = search needs
-
-sub-point : tie.Need-sub-point
-sub-point c = search needs
-
-scan-whole-requires : tie.Need-scan-whole-requires
-scan-whole-requires c κs = search needs
-
 scan-fraction-requires : tie.Need-scan-fraction-requires
 scan-fraction-requires c κs =
     let a = c .before .before .args in
@@ -39,10 +27,10 @@ pub read-dec-spec : {M : Type 1} → statement M
 read-dec-spec =
     tie.close
     (tie.spec
-    add-end
-    add-point
-    sub-point
-    scan-whole-requires
+    (λ c. search needs)
+    (λ c. search needs)
+    (λ c. search needs)
+    (λ c κs. search needs)
     scan-fraction-requires
     field-of-requires
     returns)

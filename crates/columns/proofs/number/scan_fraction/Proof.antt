@@ -9,35 +9,11 @@ use Rattle.columns.proofs.laws.Number.{fraction-blank, fraction-other, 
 use Rattle.columns.proofs.number.scan_fraction.Statement.{statement}
 use Rattle.columns.proofs.number.scan_fraction.Tie as tie
 
-enum-told : tie.Need-enum-told
-enum-told c = search needs
-
-skip-blanks-requires : tie.Need-skip-blanks-requires
-skip-blanks-requires c κs = search needs
-
-enum-known-whole : tie.Need-enum-known-whole
-enum-known-whole c = search needs
-
-shared-slice-read-if2 : tie.Need-shared-slice-read-if2
-shared-slice-read-if2 c = search needs
-
-add-read-digits : tie.Need-add-read-digits
-add-read-digits c = search needs
-
 read-digits-requires : tie.Need-read-digits-requires
 read-digits-requires c κs =
     let w = c .before .before .before in
     let a = w .before .before .before .args in
     (search needs, (search needs, subst (λ (x : Scan). (magnitude x + 1) * 10 ^ (a .to - (a .from + 1)) ≤ 10 ^ 18) (w .whole .given .1) (w .before .before .before .pre .1 .1)))
-
-enum-known-m : tie.Need-enum-known-m
-enum-known-m c = search needs
-
-enum-told-2 : tie.Need-enum-told-2
-enum-told-2 c = search needs
-
-enum-told-3 : tie.Need-enum-told-3
-enum-told-3 c = search needs
 
 returns : tie.Need-returns
 returns c =
@@ -78,15 +54,15 @@ pub scan-fraction-spec : {M : Type 1} → statement M
 scan-fraction-spec =
     tie.close
     (tie.spec
-    enum-told
-    skip-blanks-requires
-    enum-known-whole
-    shared-slice-read-if2
-    add-read-digits
+    (λ c. search needs)
+    (λ c κs. search needs)
+    (λ c. search needs)
+    (λ c. search needs)
+    (λ c. search needs)
     read-digits-requires
-    enum-known-m
-    enum-told-2
-    enum-told-3
+    (λ c. search needs)
+    (λ c. search needs)
+    (λ c. search needs)
     returns
     returns-2
     returns-3

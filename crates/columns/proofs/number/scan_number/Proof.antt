@@ -15,12 +15,6 @@ returns c =
 read-digits-requires : tie.Need-read-digits-requires
 read-digits-requires c κs = (search needs, (search needs, one-room _ (search needs)))
 
-enum-known-n : tie.Need-enum-known-n
-enum-known-n c = search needs
-
-enum-told : tie.Need-enum-told
-enum-told c = search needs
-
 returns-2 : tie.Need-returns-2
 returns-2 c =
     let d = c .before .before .before in
@@ -41,7 +35,7 @@ scan-number-spec =
     (tie.spec
     returns
     read-digits-requires
-    enum-known-n
-    enum-told
+    (λ c. search needs)
+    (λ c. search needs)
     returns-2
     returns-3)

@@ -5,31 +5,16 @@ use Rattle.columns.proofs.laws.Number.{scan-none, scan-minus, scan-plai
 use Rattle.columns.proofs.number.scan_whole.Statement.{statement}
 use Rattle.columns.proofs.number.scan_whole.Tie as tie
 
-skip-blanks-requires : tie.Need-skip-blanks-requires
-skip-blanks-requires c κs = search needs
-
 returns : tie.Need-returns
 returns c =
     let a = c .before .before .before .args in
     sym (scan-none (a .line .now) (a .from) _ _ (c .before .skip-blanks .ensures .1 .1) (c .if1 .taken))
-
-shared-slice-read-if2 : tie.Need-shared-slice-read-if2
-shared-slice-read-if2 c = search needs
-
-add-scan-number : tie.Need-add-scan-number
-add-scan-number c = search needs
-
-scan-number-requires : tie.Need-scan-number-requires
-scan-number-requires c κs = search needs
 
 returns-2 : tie.Need-returns-2
 returns-2 c =
     let d = c .before .before .before .before in
     let a = d .before .before .args in
     c .scan-number .ensures ∙ sym (scan-minus (a .line .now) (a .from) (d .skip-blanks .result) (a .to) (d .skip-blanks .ensures .1 .1) (omega arith) (search needs) (c .before .if2 .taken))
-
-scan-number-requires-2 : tie.Need-scan-number-requires-2
-scan-number-requires-2 c κs = search needs
 
 returns-3 : tie.Need-returns-3
 returns-3 c =
@@ -41,11 +26,11 @@ pub scan-whole-spec : {M : Type 1} → statement M
 scan-whole-spec =
     tie.close
     (tie.spec
-    skip-blanks-requires
+    (λ c κs. search needs)
     returns
-    shared-slice-read-if2
-    add-scan-number
-    scan-number-requires
+    (λ c. search needs)
+    (λ c. search needs)
+    (λ c κs. search needs)
     returns-2
-    scan-number-requires-2
+    (λ c κs. search needs)
     returns-3)

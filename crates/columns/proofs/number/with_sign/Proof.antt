@@ -9,14 +9,8 @@ use Rattle.columns.proofs.laws.Number.{neg-is, neg-fits}
 use Rattle.columns.proofs.number.with_sign.Statement.{statement}
 use Rattle.columns.proofs.number.with_sign.Tie as tie
 
-cast-result : tie.Need-cast-result
-cast-result c = search needs
-
 sub-result : tie.Need-sub-result
 sub-result c = subst (λ (z : ℤ). SFits w64 z) (sym (neg-is _ (c .before .pre))) (neg-fits _ (c .before .pre))
-
-cast-result-2 : tie.Need-cast-result-2
-cast-result-2 c = search needs
 
 returns : tie.Need-returns
 returns c =
@@ -26,4 +20,4 @@ returns-2 : tie.Need-returns-2
 returns-2 c = rw (toZ-pos w64 (c .before .args .n) (omega arith), c .if1 .left)
 
 pub with-sign-spec : {M : Type 1} → statement M
-with-sign-spec = tie.close (tie.spec cast-result sub-result cast-result-2 returns returns-2)
+with-sign-spec = tie.close (tie.spec (λ c. search needs) sub-result (λ c. search needs) returns returns-2)

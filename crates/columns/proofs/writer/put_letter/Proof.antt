@@ -9,34 +9,16 @@ use Rattle.columns.proofs.laws.Puts.{text-barred, text-clear}
 use Rattle.columns.specs.Answer.{barredByte, wrongLetter}
 use Rattle.columns.proofs.writer.put_letter.Tie as tie
 
-barred-in-requires : tie.Need-barred-in-requires
-barred-in-requires c κs = search needs
-
 returns : tie.Need-returns
 returns c =
     let a = c .before .before .before .before .before .args in
     wrote-refused _ (a .out .now) barredByte _ (text-barred false (a .at) (a .s .now) _ _ (c .before .barred-in .ensures) (c .if1 .taken))
-
-shared-slice-read-has : tie.Need-shared-slice-read-has
-shared-slice-read-has c = search needs
-
-has-requires : tie.Need-has-requires
-has-requires c κs = search needs
-
-add-t12 : tie.Need-add-t12
-add-t12 c = search needs
 
 returns-2 : tie.Need-returns-2
 returns-2 c =
     let a = c .before .before .before .before .before .before .before .before .args in
     wrote-refused _ (a .out .now) wrongLetter (a .at + 1)
     (text-clear false (a .at) (a .s .now) _ _ (c .before .before .before .before .barred-in .ensures) (c .before .before .before .if1 .left) ∙ rw (sym (c .before .has .ensures) ∙ not-true _ (c .if2 .taken)))
-
-copy-requires : tie.Need-copy-requires
-copy-requires c κs = search needs
-
-same-length : tie.Need-same-length
-same-length c = search needs
 
 returns-3 : tie.Need-returns-3
 returns-3 c =
@@ -47,12 +29,12 @@ pub put-letter-spec : {M : Type 1} → statement M
 put-letter-spec =
     tie.close
     (tie.spec
-    barred-in-requires
+    (λ c κs. search needs)
     returns
-    shared-slice-read-has
-    has-requires
-    add-t12
+    (λ c. search needs)
+    (λ c κs. search needs)
+    (λ c. search needs)
     returns-2
-    copy-requires
-    same-length
+    (λ c κs. search needs)
+    (λ c. search needs)
     returns-3)

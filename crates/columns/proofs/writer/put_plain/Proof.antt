@@ -5,19 +5,10 @@ use Rattle.columns.proofs.laws.Puts.{text-barred, text-clear}
 use Rattle.columns.specs.Answer.{barredByte, ok}
 use Rattle.columns.proofs.writer.put_plain.Tie as tie
 
-barred-in-requires : tie.Need-barred-in-requires
-barred-in-requires c κs = search needs
-
 returns : tie.Need-returns
 returns c =
     let a = c .before .before .before .before .args in
     wrote-refused _ (a .out .now) barredByte _ (text-barred (a .bars) (a .at) (a .s .now) (ok (a .s .now)) _ (c .before .barred-in .ensures) (c .if1 .taken))
-
-copy-requires : tie.Need-copy-requires
-copy-requires c κs = search needs
-
-same-length : tie.Need-same-length
-same-length c = search needs
 
 returns-2 : tie.Need-returns-2
 returns-2 c =
@@ -26,4 +17,4 @@ returns-2 c =
 
 pub put-plain-spec : {M : Type 1} → statement M
 put-plain-spec =
-    tie.close (tie.spec barred-in-requires returns copy-requires same-length returns-2)
+    tie.close (tie.spec (λ c κs. search needs) returns (λ c κs. search needs) (λ c. search needs) returns-2)

@@ -6,19 +6,10 @@ use Rattle.columns.proofs.laws.Answers.{wrote-refused, wrote-done}
 use Rattle.columns.specs.Answer.{requiredBlank}
 use Rattle.columns.proofs.writer.write_missing.Tie as tie
 
-add-t5 : tie.Need-add-t5
-add-t5 c = search needs
-
 returns : tie.Need-returns
 returns c =
     let a = c .before .before .args in
     wrote-refused _ (a .out .now) requiredBlank (a .at + 1) (rw (c .if1 .taken))
-
-blanks-requires : tie.Need-blanks-requires
-blanks-requires c κs = search needs
-
-same-length : tie.Need-same-length
-same-length c = search needs
 
 returns-2 : tie.Need-returns-2
 returns-2 c =
@@ -26,4 +17,4 @@ returns-2 c =
     wrote-done _ (a .out .now) (replicate (length (a .out .now)) 32) _ (rw (c .before .before .before .before .if1 .left)) (length-replicate (length (a .out .now)) 32) (c .before .before .blanks .ensures)
 
 pub write-missing-spec : {M : Type 1} → statement M
-write-missing-spec = tie.close (tie.spec add-t5 returns blanks-requires same-length returns-2)
+write-missing-spec = tie.close (tie.spec (λ c. search needs) returns (λ c κs. search needs) (λ c. search needs) returns-2)

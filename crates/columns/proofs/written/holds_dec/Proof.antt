@@ -5,23 +5,8 @@ use Rattle.columns.proofs.laws.Written.{dec-neg, dec-pos}
 use Rattle.columns.proofs.written.holds_dec.Statement.{statement}
 use Rattle.columns.proofs.written.holds_dec.Tie as tie
 
-magnitude-of-requires : tie.Need-magnitude-of-requires
-magnitude-of-requires c κs = search needs
-
-sub-power : tie.Need-sub-power
-sub-power c = search needs
-
-power-requires : tie.Need-power-requires
-power-requires c κs = search needs
-
 returns : tie.Need-returns
 returns c = let a = c .before .before .before .args in rw (c .before .before .magnitude-of .ensures, c .power .ensures, toZ-ofZ w64 (a .v) (search needs)) (dec-neg (a .width) (a .v) (search needs) (c .before .if1 .taken))
-
-sub-power-2 : tie.Need-sub-power-2
-sub-power-2 c = search needs
-
-power-requires-2 : tie.Need-power-requires-2
-power-requires-2 c κs = search needs
 
 returns-2 : tie.Need-returns-2
 returns-2 c = let a = c .before .before .before .args in rw (c .before .before .magnitude-of .ensures, c .power2 .ensures, toZ-ofZ w64 (a .v) (search needs)) (dec-pos (a .width) (a .v) (search needs) (c .before .if1 .left))
@@ -30,10 +15,10 @@ pub holds-dec-spec : {M : Type 1} → statement M
 holds-dec-spec =
     tie.close
     (tie.spec
-    magnitude-of-requires
-    sub-power
-    power-requires
+    (λ c κs. search needs)
+    (λ c. search needs)
+    (λ c κs. search needs)
     returns
-    sub-power-2
-    power-requires-2
+    (λ c. search needs)
+    (λ c κs. search needs)
     returns-2)

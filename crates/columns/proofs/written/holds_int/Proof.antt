@@ -5,20 +5,8 @@ use Rattle.columns.proofs.laws.Written.{int-neg, int-pos}
 use Rattle.columns.proofs.written.holds_int.Statement.{statement}
 use Rattle.columns.proofs.written.holds_int.Tie as tie
 
-magnitude-of-requires : tie.Need-magnitude-of-requires
-magnitude-of-requires c κs = search needs
-
-sub-power : tie.Need-sub-power
-sub-power c = search needs
-
-power-requires : tie.Need-power-requires
-power-requires c κs = search needs
-
 returns : tie.Need-returns
 returns c = let a = c .before .before .before .args in rw (c .before .before .magnitude-of .ensures, c .power .ensures, toZ-ofZ w64 (a .v) (search needs)) (int-neg (a .width) (a .v) (search needs) (c .before .if1 .taken) .0)
-
-power-requires-2 : tie.Need-power-requires-2
-power-requires-2 c κs = search needs
 
 returns-2 : tie.Need-returns-2
 returns-2 c = let a = c .before .before .before .args in rw (c .before .before .magnitude-of .ensures, c .power2 .ensures, toZ-ofZ w64 (a .v) (search needs)) (int-pos (a .width) (a .v) (search needs) (c .before .if1 .left) .0)
@@ -26,4 +14,4 @@ returns-2 c = let a = c .before .before .before .args in rw (c .before .before .
 pub holds-int-spec : {M : Type 1} → statement M
 holds-int-spec =
     tie.close
-    (tie.spec magnitude-of-requires sub-power power-requires returns power-requires-2 returns-2)
+    (tie.spec (λ c κs. search needs) (λ c. search needs) (λ c κs. search needs) returns (λ c κs. search needs) returns-2)

@@ -31,10 +31,7 @@ cast-result-2 c =
     let g = nonNegative (c .before .args .v) (search needs) (c .if1 .left) in
     rw (g .0) (tt, record { fits = omega (arith, g .1) })
 
-returns-2 : tie.Need-returns-2
-returns-2 c = search needs
-
 pub magnitude-of-spec : {M : Type 1} → statement M
 magnitude-of-spec =
     tie.close
-    (tie.spec add-result sub-result cast-result add-result-2 returns cast-result-2 returns-2)
+    (tie.spec add-result sub-result cast-result add-result-2 returns cast-result-2 (λ c. search needs))

@@ -12,17 +12,8 @@ Inv-loop k p₀ i₀ p i = (i ≤ k) × (p ≡ 10 ^ i)
 abbrev μ-loop : tie.MeasureT-loop
 μ-loop k p₀ i₀ p i = k - i
 
-loop-holds : tie.Need-loop-holds Inv-loop μ-loop
-loop-holds c = search needs
-
 mul-p : tie.Need-mul-p Inv-loop μ-loop
 mul-p c = omega (arith, power-le (c .before .loop .i) (search needs))
-
-add-i : tie.Need-add-i Inv-loop μ-loop
-add-i c = search needs
-
-loop-less : tie.Need-loop-less Inv-loop μ-loop
-loop-less c = search needs
 
 loop-again : tie.Need-loop-again Inv-loop μ-loop
 loop-again c = (search needs, omega (arith, power-more (c .before .loop .i)))
@@ -32,4 +23,4 @@ returns c = let e : c .before .loop .i ≡ c .before .before .args .k = omega ar
 
 pub power-spec : {M : Type 1} → statement M
 power-spec =
-    tie.close (tie.spec Inv-loop μ-loop loop-holds mul-p add-i loop-less loop-again returns)
+    tie.close (tie.spec Inv-loop μ-loop (λ c. search needs) mul-p (λ c. search needs) (λ c. search needs) loop-again returns)

@@ -14,38 +14,8 @@ use Rattle.columns.proofs.laws.NumberBack.{dec-is}
 use Rattle.columns.specs.Number.{digitsOf}
 use Rattle.columns.proofs.written.write_dec.Tie as tie
 
-magnitude-of-requires : tie.Need-magnitude-of-requires
-magnitude-of-requires c κs = search needs
-
-add-point : tie.Need-add-point
-add-point c = search needs
-
-sub-point : tie.Need-sub-point
-sub-point c = search needs
-
-power-requires : tie.Need-power-requires
-power-requires c κs = search needs
-
 div-whole : tie.Need-div-whole
 div-whole c = omega (arith, c .power .ensures, power-pos (c .before .before .before .args .decimals))
-
-add-write-digits : tie.Need-add-write-digits
-add-write-digits c = search needs
-
-sub-write-digits : tie.Need-sub-write-digits
-sub-write-digits c = search needs
-
-part-write-digits-start : tie.Need-part-write-digits-start
-part-write-digits-start c = search needs
-
-part-write-digits-end : tie.Need-part-write-digits-end
-part-write-digits-end c = search needs
-
-write-digits-requires : tie.Need-write-digits-requires
-write-digits-requires c κs = search needs
-
-slice-write-out : tie.Need-slice-write-out
-slice-write-out c = search needs
 
 slice-relend-prefix-write-back : tie.Need-slice-relend-prefix-write-back
 slice-relend-prefix-write-back c =
@@ -62,9 +32,6 @@ slice-aggregate-write-back c =
     let l = a .out .now in
     let h : length l - (a .decimals + 1) + (a .decimals + 1) ≡ length l = omega arith in
     sym (length-take-le _ _ (omega (arith, dec-put-length l (d .write-digits .last .0) (length l - (a .decimals + 1)) (a .decimals) h (d .write-digits .kept .0))))
-
-write-back-requires : tie.Need-write-back-requires
-write-back-requires c κs = search needs
 
 same-length : tie.Need-same-length
 same-length c =
@@ -99,19 +66,19 @@ pub write-dec-spec : {M : Type 1} → statement M
 write-dec-spec =
     tie.close
     (tie.spec
-    magnitude-of-requires
-    add-point
-    sub-point
-    power-requires
+    (λ c κs. search needs)
+    (λ c. search needs)
+    (λ c. search needs)
+    (λ c κs. search needs)
     div-whole
-    add-write-digits
-    sub-write-digits
-    part-write-digits-start
-    part-write-digits-end
-    write-digits-requires
-    slice-write-out
+    (λ c. search needs)
+    (λ c. search needs)
+    (λ c. search needs)
+    (λ c. search needs)
+    (λ c κs. search needs)
+    (λ c. search needs)
     slice-relend-prefix-write-back
     slice-aggregate-write-back
-    write-back-requires
+    (λ c κs. search needs)
     same-length
     returns)

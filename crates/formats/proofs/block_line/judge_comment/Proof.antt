@@ -1,6 +1,4 @@
 use mathlib.Core.Path.{sym, ap, _∙_}
-use Prim.Native.Nat.{_-_}
-use lib.ListN.{take}
 use Rattle.columns.specs.Table.{outcomeOf}
 use Rattle.formats.proofs.laws.BlockLine.{comment-long, comment-barred, comment-open, comment-closed, seen-told, unseen-told}
 use borrow.Author.Needs.{needs}
@@ -10,14 +8,8 @@ use Rattle.formats.proofs.block_line.judge_comment.Tie as tie
 returns : tie.Need-returns
 returns c = sym (ap outcomeOf (comment-long (c .before .before .args .seen) (c .before .before .args .line .now) (c .if1 .taken)))
 
-first-barred-requires : tie.Need-first-barred-requires
-first-barred-requires c κs = search needs
-
 returns-2 : tie.Need-returns-2
 returns-2 c = sym (ap outcomeOf (comment-barred (c .before .before .before .before .args .seen) (c .before .before .before .before .args .line .now) (c .before .before .if1 .left) (c .before .first-barred .result) (c .before .first-barred .ensures) (c .if2 .taken)))
-
-last-byte-requires : tie.Need-last-byte-requires
-last-byte-requires c κs = search needs
 
 returns-3 : tie.Need-returns-3
 returns-3 c = sym (ap outcomeOf (comment-open (c .before .before .before .before .before .before .args .seen) (c .before .before .before .before .before .before .args .line .now) (c .before .before .before .before .if1 .left) (sym (c .before .before .before .first-barred .ensures) ∙ c .before .before .if2 .left) (λ q. c .if3 .taken (c .before .last-byte .ensures ∙ q))))
@@ -33,9 +25,9 @@ judge-comment-spec =
     tie.close
     (tie.spec
     returns
-    first-barred-requires
+    (λ c κs. search needs)
     returns-2
-    last-byte-requires
+    (λ c κs. search needs)
     returns-3
     returns-4
     returns-5)

@@ -8,12 +8,6 @@ returns c =
     let a = c .before .before .args in
     line-at-none (a .s .now) (a .at) (c .if1 .taken)
 
-line-end-requires : tie.Need-line-end-requires
-line-end-requires c κs = search needs
-
-add-t6 : tie.Need-add-t6
-add-t6 c = search needs
-
 returns-2 : tie.Need-returns-2
 returns-2 c =
     let l = c .before in
@@ -27,4 +21,4 @@ returns-3 c =
     line-at-last (a .s .now) (a .at) (l .line-end .result) (l .before .if1 .left) (l .line-end .ensures .0) (c .if2 .left)
 
 pub line-at-spec : {M : Type 1} → statement M
-line-at-spec = tie.close (tie.spec returns line-end-requires add-t6 returns-2 returns-3)
+line-at-spec = tie.close (tie.spec returns (λ c κs. search needs) (λ c. search needs) returns-2 returns-3)

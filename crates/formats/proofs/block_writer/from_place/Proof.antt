@@ -3,12 +3,6 @@ use borrow.Author.Needs.{needs}
 use Rattle.formats.proofs.block_writer.from_place.Statement.{statement}
 use Rattle.formats.proofs.block_writer.from_place.Tie as tie
 
-enum-known-reply : tie.Need-enum-known-reply
-enum-known-reply c = search needs
-
-enum-known-reply-2 : tie.Need-enum-known-reply-2
-enum-known-reply-2 c = search needs
-
 add-t7 : tie.Need-add-t7
 add-t7 c = let h = rw (c .before .reply2 .given .1) at (c .before .before .before .pre) in omega (arith, h)
 
@@ -19,4 +13,4 @@ returns-2 : tie.Need-returns-2
 returns-2 c = rw (c .before .reply2 .given .1)
 
 pub from-place-spec : {M : Type 1} → statement M
-from-place-spec = tie.close (tie.spec enum-known-reply enum-known-reply-2 add-t7 returns returns-2)
+from-place-spec = tie.close (tie.spec (λ c. search needs) (λ c. search needs) add-t7 returns returns-2)

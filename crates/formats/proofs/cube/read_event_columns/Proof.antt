@@ -12,38 +12,11 @@ use Rattle.formats.proofs.laws.Cube.{refused-is, event-is}
 use Rattle.columns.proofs.laws.Reader.{read-refused, read-whole}
 use Rattle.formats.proofs.cube.read_event_columns.Tie as tie
 
-slice-aggregate-read-columns : tie.Need-slice-aggregate-read-columns
-slice-aggregate-read-columns c = search needs
-
-slice-aggregate-read-columns-2 : tie.Need-slice-aggregate-read-columns-2
-slice-aggregate-read-columns-2 c = search needs
-
-slice-aggregate-read-columns-3 : tie.Need-slice-aggregate-read-columns-3
-slice-aggregate-read-columns-3 c = search needs
-
-slice-aggregate-read-columns-4 : tie.Need-slice-aggregate-read-columns-4
-slice-aggregate-read-columns-4 c = search needs
-
-slice-aggregate-read-columns-5 : tie.Need-slice-aggregate-read-columns-5
-slice-aggregate-read-columns-5 c = search needs
-
-slice-aggregate-read-columns-6 : tie.Need-slice-aggregate-read-columns-6
-slice-aggregate-read-columns-6 c = search needs
-
 read-columns-requires : tie.Need-read-columns-requires
 unfolding columnsOf good widths allSlots allTexts
 read-columns-requires c κs =
     let l = c .before .before .before .before .before .before .before .pre in
-    (search needs, (search needs, record { fine = tt; line = rw l (lit≤ tt); low = rw l (lit≤ tt); same = refl; numbers = lit≤ tt; chars = lit≤ tt }))
-
-enum-known-outcome : tie.Need-enum-known-outcome
-enum-known-outcome c = search needs
-
-refused-requires : tie.Need-refused-requires
-refused-requires c κs = search needs
-
-enum-told : tie.Need-enum-told
-enum-told c = search needs
+    (search needs, record { fine = tt; line = rw l (lit≤ tt); low = rw l (lit≤ tt); same = refl; numbers = lit≤ tt; chars = lit≤ tt })
 
 returns : tie.Need-returns
 unfolding columnsOf
@@ -63,15 +36,15 @@ pub read-event-columns-spec : {M : Type 1} → statement M
 read-event-columns-spec =
     tie.close
     (tie.spec
-    slice-aggregate-read-columns
-    slice-aggregate-read-columns-2
-    slice-aggregate-read-columns-3
-    slice-aggregate-read-columns-4
-    slice-aggregate-read-columns-5
-    slice-aggregate-read-columns-6
+    (λ c. search needs)
+    (λ c. search needs)
+    (λ c. search needs)
+    (λ c. search needs)
+    (λ c. search needs)
+    (λ c. search needs)
     read-columns-requires
-    enum-known-outcome
-    refused-requires
-    enum-told
+    (λ c. search needs)
+    (λ c κs. search needs)
+    (λ c. search needs)
     returns
     returns-2)

@@ -1,121 +1,38 @@
 use borrow.Author.Needs.{needs}
-use borrow.Author.Tests.{not-true, not-false}
-use Rattle.formats.proofs.laws.Judge.{judged-more, judged-stop}
+use lib.ListN.{drop}
+use mathlib.Core.List.{[]}
+use Rattle.columns.specs.Column.{good, widths}
+use Rattle.columns.specs.Reading.{readColumns}
+use Rattle.columns.specs.Table.{columnsOf}
+use Rattle.columns.proofs.laws.Answers.{ok-done, ok-refused}
+use Rattle.formats.specs.Cube.{eventColumns}
+use lib.Dec.{lit≤}
 use Rattle.formats.proofs.judge.columns_ok.Statement.{statement}
 use Rattle.formats.proofs.judge.columns_ok.Tie as tie
 
-int-ok-requires : tie.Need-int-ok-requires
-int-ok-requires c κs = search needs
+judge-columns-requires : tie.Need-judge-columns-requires
+unfolding columnsOf good widths
+judge-columns-requires c κs =
+    let l = c .before .before .before .before .pre in
+    (search needs, record { fine = tt; inside = rw l (lit≤ tt); low = rw l (lit≤ tt) })
 
 returns : tie.Need-returns
-returns c =
-    let a1 = c .before in
-    judged-stop _ _ _ _ (a1 .int-ok .ensures) (not-true _ (c .if1 .taken))
-
-int-ok-requires-2 : tie.Need-int-ok-requires-2
-int-ok-requires-2 c κs = search needs
+unfolding columnsOf
+returns c = ok-done (readColumns eventColumns [] 2 (drop 2 (c .before .before .before .before .before .before .before .args .line .now))) (rw (c .enum-told .given .1) at (c .before .before .judge-columns .ensures))
 
 returns-2 : tie.Need-returns-2
-returns-2 c =
-    let a2 = c .before in
-    let b1 = a2 .before in
-    let a1 = b1 .before in
-    judged-more _ _ _ _ (a1 .int-ok .ensures) (not-false _ (b1 .if1 .left)) (judged-stop _ _ _ _ (a2 .int-ok2 .ensures) (not-true _ (c .if2 .taken)))
-
-int-ok-requires-3 : tie.Need-int-ok-requires-3
-int-ok-requires-3 c κs = search needs
-
-returns-3 : tie.Need-returns-3
-returns-3 c =
-    let a3 = c .before in
-    let b2 = a3 .before in
-    let a2 = b2 .before in
-    let b1 = a2 .before in
-    let a1 = b1 .before in
-    judged-more _ _ _ _ (a1 .int-ok .ensures) (not-false _ (b1 .if1 .left)) (judged-more _ _ _ _ (a2 .int-ok2 .ensures) (not-false _ (b2 .if2 .left)) (judged-stop _ _ _ _ (a3 .int-ok3 .ensures) (not-true _ (c .if3 .taken))))
-
-int-ok-requires-4 : tie.Need-int-ok-requires-4
-int-ok-requires-4 c κs = search needs
-
-returns-4 : tie.Need-returns-4
-returns-4 c =
-    let a4 = c .before in
-    let b3 = a4 .before in
-    let a3 = b3 .before in
-    let b2 = a3 .before in
-    let a2 = b2 .before in
-    let b1 = a2 .before in
-    let a1 = b1 .before in
-    judged-more _ _ _ _ (a1 .int-ok .ensures) (not-false _ (b1 .if1 .left)) (judged-more _ _ _ _ (a2 .int-ok2 .ensures) (not-false _ (b2 .if2 .left)) (judged-more _ _ _ _ (a3 .int-ok3 .ensures) (not-false _ (b3 .if3 .left)) (judged-stop _ _ _ _ (a4 .int-ok4 .ensures) (not-true _ (c .if4 .taken)))))
-
-int-ok-requires-5 : tie.Need-int-ok-requires-5
-int-ok-requires-5 c κs = search needs
-
-returns-5 : tie.Need-returns-5
-returns-5 c =
-    let a5 = c .before in
-    let b4 = a5 .before in
-    let a4 = b4 .before in
-    let b3 = a4 .before in
-    let a3 = b3 .before in
-    let b2 = a3 .before in
-    let a2 = b2 .before in
-    let b1 = a2 .before in
-    let a1 = b1 .before in
-    judged-more _ _ _ _ (a1 .int-ok .ensures) (not-false _ (b1 .if1 .left)) (judged-more _ _ _ _ (a2 .int-ok2 .ensures) (not-false _ (b2 .if2 .left)) (judged-more _ _ _ _ (a3 .int-ok3 .ensures) (not-false _ (b3 .if3 .left)) (judged-more _ _ _ _ (a4 .int-ok4 .ensures) (not-false _ (b4 .if4 .left)) (judged-stop _ _ _ _ (a5 .int-ok5 .ensures) (not-true _ (c .if5 .taken))))))
-
-int-ok-requires-6 : tie.Need-int-ok-requires-6
-int-ok-requires-6 c κs = search needs
-
-returns-6 : tie.Need-returns-6
-returns-6 c =
-    let a6 = c .before in
-    let b5 = a6 .before in
-    let a5 = b5 .before in
-    let b4 = a5 .before in
-    let a4 = b4 .before in
-    let b3 = a4 .before in
-    let a3 = b3 .before in
-    let b2 = a3 .before in
-    let a2 = b2 .before in
-    let b1 = a2 .before in
-    let a1 = b1 .before in
-    judged-more _ _ _ _ (a1 .int-ok .ensures) (not-false _ (b1 .if1 .left)) (judged-more _ _ _ _ (a2 .int-ok2 .ensures) (not-false _ (b2 .if2 .left)) (judged-more _ _ _ _ (a3 .int-ok3 .ensures) (not-false _ (b3 .if3 .left)) (judged-more _ _ _ _ (a4 .int-ok4 .ensures) (not-false _ (b4 .if4 .left)) (judged-more _ _ _ _ (a5 .int-ok5 .ensures) (not-false _ (b5 .if5 .left)) (judged-stop _ _ _ _ (a6 .int-ok6 .ensures) (not-true _ (c .if6 .taken)))))))
-
-place-ok-requires : tie.Need-place-ok-requires
-place-ok-requires c κs = search needs
-
-returns-7 : tie.Need-returns-7
-returns-7 c =
-    let b6 = c .before in
-    let a6 = b6 .before in
-    let b5 = a6 .before in
-    let a5 = b5 .before in
-    let b4 = a5 .before in
-    let a4 = b4 .before in
-    let b3 = a4 .before in
-    let a3 = b3 .before in
-    let b2 = a3 .before in
-    let a2 = b2 .before in
-    let b1 = a2 .before in
-    let a1 = b1 .before in
-    judged-more _ _ _ _ (a1 .int-ok .ensures) (not-false _ (b1 .if1 .left)) (judged-more _ _ _ _ (a2 .int-ok2 .ensures) (not-false _ (b2 .if2 .left)) (judged-more _ _ _ _ (a3 .int-ok3 .ensures) (not-false _ (b3 .if3 .left)) (judged-more _ _ _ _ (a4 .int-ok4 .ensures) (not-false _ (b4 .if4 .left)) (judged-more _ _ _ _ (a5 .int-ok5 .ensures) (not-false _ (b5 .if5 .left)) (judged-more _ _ _ _ (a6 .int-ok6 .ensures) (not-false _ (b6 .if6 .left)) (c .place-ok .ensures))))))
+unfolding columnsOf
+returns-2 c = ok-refused (readColumns eventColumns [] 2 (drop 2 (c .before .before .before .before .before .before .before .args .line .now))) _ _ (rw (c .enum-told2 .given .1) at (c .before .before .judge-columns .ensures))
 
 pub columns-ok-spec : {M : Type 1} → statement M
 columns-ok-spec =
     tie.close
     (tie.spec
-    int-ok-requires
+    (λ c. search needs)
+    (λ c. search needs)
+    (λ c. search needs)
+    judge-columns-requires
+    (λ c. search needs)
+    (λ c. search needs)
     returns
-    int-ok-requires-2
-    returns-2
-    int-ok-requires-3
-    returns-3
-    int-ok-requires-4
-    returns-4
-    int-ok-requires-5
-    returns-5
-    int-ok-requires-6
-    returns-6
-    place-ok-requires
-    returns-7)
+    returns-2)

@@ -3,15 +3,6 @@ use borrow.Author.Needs.{needs}
 use Rattle.formats.proofs.judge.is_link.Statement.{statement}
 use Rattle.formats.proofs.judge.is_link.Tie as tie
 
-read-line-requires : tie.Need-read-line-requires
-read-line-requires c κs = search needs
-
-enum-known-read : tie.Need-enum-known-read
-enum-known-read c = search needs
-
-enum-told : tie.Need-enum-told
-enum-told c = search needs
-
 returns : tie.Need-returns
 returns c =
     let g = c .before .before .before .read-line in
@@ -23,4 +14,4 @@ returns-2 c =
     judged-no-link (c .before .before .before .before .args .line .now) (g .result) (g .ensures) _ _ (c .enum-told .given .1)
 
 pub is-link-spec : {M : Type 1} → statement M
-is-link-spec = tie.close (tie.spec read-line-requires enum-known-read enum-told returns returns-2)
+is-link-spec = tie.close (tie.spec (λ c κs. search needs) (λ c. search needs) (λ c. search needs) returns returns-2)

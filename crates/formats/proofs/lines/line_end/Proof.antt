@@ -1,9 +1,11 @@
 use borrow.Author.Needs.{needs}
-use mathlib.Core.Path.{_≡_, sym, _∙_}
-use Prim.Native.Nat.{_≤_, _-_}
+use native.Mathlib.Omega.{arith}
+use mathlib.Core.Path.{_≡_, sym, ap, _∙_}
+use Prim.Native.Nat.{ℕ, _≤_, _<_, _-_, _+_}
 use lib.ListN.{length}
+use borrow.Author.Tests.{not-true, not-false}
 use Rattle.formats.specs.Lines.{lineEnd}
-use Rattle.formats.proofs.laws.Lines.{line-end-newline, line-end-other, line-end-last}
+use Rattle.formats.proofs.laws.Lines.{part-in, part-past}
 use Rattle.formats.proofs.lines.line_end.Statement.{statement}
 use Rattle.formats.proofs.lines.line_end.Tie as tie
 
@@ -13,35 +15,29 @@ Inv-loop s at i₀ i = (at ≤ i) × (i ≤ length s) × (lineEnd s at ≡ lineE
 abbrev μ-loop : tie.MeasureT-loop
 μ-loop s at i₀ i = length s - i
 
-loop-holds : tie.Need-loop-holds Inv-loop μ-loop
-loop-holds c = search needs
-
-shared-slice-read-if1 : tie.Need-shared-slice-read-if1 Inv-loop μ-loop
-shared-slice-read-if1 c = search needs
+add-result : tie.Need-add-result Inv-loop μ-loop
+add-result c =
+    let short = c .before .before .before .no-newline .ensures .1 (not-true _ (c .before .before .if1 .taken)) in
+    let small : c .newline-in .result < 16 = rw (c .newline-in .ensures) short in
+    search needs
 
 returns : tie.Need-returns Inv-loop μ-loop
 returns c =
-    let l = c .before .before .before in
-    let a = l .before .args in
-    (sym (l .loop .inv .2 ∙ line-end-newline (a .s .now) (l .loop .i) (search needs) (c .if1 .taken)), search needs, search needs)
-
-add-i : tie.Need-add-i Inv-loop μ-loop
-add-i c = search needs
-
-loop-less : tie.Need-loop-less Inv-loop μ-loop
-loop-less c = search needs
+    let l = c .before .before .before .before .before .before in
+    let short = c .before .before .before .no-newline .ensures .1 (not-true _ (c .before .before .if1 .taken)) in
+    let small : c .newline-in .result < 16 = rw (c .newline-in .ensures) short in
+    let i = l .loop .i in
+    let found = part-in (l .before .before .args .s .now) i (i + 16 - i) (omega arith) (omega (arith, short)) in
+    (sym (l .loop .inv .2 ∙ found ∙ ap (λ (m : ℕ). i + m) (sym (c .newline-in .ensures))), search needs, search needs)
 
 loop-again : tie.Need-loop-again Inv-loop μ-loop
 loop-again c =
-    let l = c .before .before .before in
-    let a = l .before .args in
-    (search needs, search needs, l .loop .inv .2 ∙ line-end-other (a .s .now) (l .loop .i) (search needs) (c .if1 .left))
-
-returns-2 : tie.Need-returns-2 Inv-loop μ-loop
-returns-2 c =
-    let l = c .before in
-    let a = l .before .args in
-    (sym (l .loop .inv .2 ∙ line-end-last (a .s .now) (l .loop .i) (search needs)), search needs, search needs)
+    let l = c .before .before .before .before in
+    let i = l .loop .i in
+    let whole = c .before .no-newline .ensures .0 (not-false _ (c .if1 .left)) in
+    let s = l .before .before .args .s .now in
+    let z : i + (i + 16 - i) ≡ i + 16 = omega arith in
+    (search needs, search needs, l .loop .inv .2 ∙ part-past s i (i + 16 - i) (omega arith) (omega (arith, whole)) ∙ ap (lineEnd s) z)
 
 pub line-end-spec : {M : Type 1} → statement M
 line-end-spec =
@@ -49,10 +45,20 @@ line-end-spec =
     (tie.spec
     Inv-loop
     μ-loop
-    loop-holds
-    shared-slice-read-if1
+    (λ c. search needs)
+    (λ c. search needs)
+    (λ c. search needs)
+    (λ c. search needs)
+    (λ c. search needs)
+    (λ c. search needs)
+    (λ c κs. search needs)
+    (λ c. search needs)
+    (λ c. search needs)
+    (λ c. search needs)
+    (λ c κs. search needs)
+    add-result
     returns
-    add-i
-    loop-less
+    (λ c. search needs)
     loop-again
-    returns-2)
+    (λ c κs. search needs)
+    (λ c. search needs))

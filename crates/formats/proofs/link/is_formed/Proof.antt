@@ -10,16 +10,10 @@ returns c =
     let a = c .before .before .before .before .args in
     formed-wide (a .kind .now) (a .address .now) (a .text .now) (c .if1 .taken)
 
-is-word-requires : tie.Need-is-word-requires
-is-word-requires c κs = search needs
-
 returns-2 : tie.Need-returns-2
 returns-2 c =
     let a = c .before .before .before .before .before .before .args in
     formed-no-type (a .kind .now) (a .address .now) (a .text .now) (c .before .before .if1 .left) (sym (c .before .is-word .ensures) ∙ not-true _ (c .if2 .taken))
-
-is-word-requires-2 : tie.Need-is-word-requires-2
-is-word-requires-2 c κs = search needs
 
 returns-3 : tie.Need-returns-3
 returns-3 c =
@@ -32,9 +26,6 @@ returns-4 c =
     begun-none (a .text .now) (c .if4 .taken)
     ∙ formed-is (a .kind .now) (a .address .now) (a .text .now) (c .before .before .before .before .before .if1 .left) (sym (c .before .before .before .before .is-word .ensures) ∙ not-false _ (c .before .before .before .if2 .left)) (sym (c .before .before .is-word2 .ensures) ∙ not-false _ (c .before .if3 .left))
 
-shared-slice-read-result : tie.Need-shared-slice-read-result
-shared-slice-read-result c = search needs
-
 returns-5 : tie.Need-returns-5
 returns-5 c =
     let a = c .before .before .before .before .before .before .before .before .before .before .args in
@@ -46,10 +37,10 @@ is-formed-spec =
     tie.close
     (tie.spec
     returns
-    is-word-requires
+    (λ c κs. search needs)
     returns-2
-    is-word-requires-2
+    (λ c κs. search needs)
     returns-3
     returns-4
-    shared-slice-read-result
+    (λ c. search needs)
     returns-5)

@@ -8,11 +8,8 @@ use Rattle.formats.proofs.link.is_word.Tie as tie
 returns : tie.Need-returns
 returns c = word-none (c .before .before .args .s .now) (c .if1 .taken)
 
-word-end-requires : tie.Need-word-end-requires
-word-end-requires c κs = search needs
-
 returns-2 : tie.Need-returns-2
 returns-2 c = word-is (c .before .before .before .args .s .now) (c .before .if1 .left) _ (c .word-end .ensures ∙ omega arith)
 
 pub is-word-spec : {M : Type 1} → statement M
-is-word-spec = tie.close (tie.spec returns word-end-requires returns-2)
+is-word-spec = tie.close (tie.spec returns (λ c κs. search needs) returns-2)

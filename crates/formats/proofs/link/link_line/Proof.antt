@@ -6,58 +6,13 @@ use borrow.Author.Needs.{needs}
 use Rattle.formats.proofs.link.link_line.Statement.{statement}
 use Rattle.formats.proofs.link.link_line.Tie as tie
 
-array-write-line : tie.Need-array-write-line
-array-write-line c = search needs
-
-array-write-line-2 : tie.Need-array-write-line-2
-array-write-line-2 c = search needs
-
-slice-aggregate-copy-at : tie.Need-slice-aggregate-copy-at
-slice-aggregate-copy-at c = search needs
-
-copy-at-requires : tie.Need-copy-at-requires
-copy-at-requires c κs = search needs
-
-array-write-line-3 : tie.Need-array-write-line-3
-array-write-line-3 c = search needs
-
-slice-aggregate-copy-at-2 : tie.Need-slice-aggregate-copy-at-2
-slice-aggregate-copy-at-2 c = search needs
-
 copy-at-requires-2 : tie.Need-copy-at-requires-2
 copy-at-requires-2 c κs = omega (arith, length-set (c .before .before .copy-at .last .0) 14 32, c .before .before .copy-at .kept .0)
-
-add-at : tie.Need-add-at
-add-at c = search needs
-
-array-write-line-4 : tie.Need-array-write-line-4
-array-write-line-4 c = search needs
-
-slice-aggregate-copy-at-3 : tie.Need-slice-aggregate-copy-at-3
-slice-aggregate-copy-at-3 c = search needs
-
-add-copy-at : tie.Need-add-copy-at
-add-copy-at c = search needs
 
 copy-at-requires-3 : tie.Need-copy-at-requires-3
 copy-at-requires-3 c κs =
     let t = length (c .before .before .before .before .before .before .before .before .before .before .before .args .kind .now) in
     omega (arith, length-set (c .before .before .before .before .before .copy-at .last .0) 14 32, c .before .before .before .before .before .copy-at .kept .0, length-set (c .before .before .copy-at2 .last .0) (15 + t) 32, c .before .before .copy-at2 .kept .0)
-
-add-at-2 : tie.Need-add-at-2
-add-at-2 c = search needs
-
-add-at-3 : tie.Need-add-at-3
-add-at-3 c = search needs
-
-array-write-line-5 : tie.Need-array-write-line-5
-array-write-line-5 c = search needs
-
-slice-aggregate-copy-at-4 : tie.Need-slice-aggregate-copy-at-4
-slice-aggregate-copy-at-4 c = search needs
-
-add-copy-at-2 : tie.Need-add-copy-at-2
-add-copy-at-2 c = search needs
 
 copy-at-requires-4 : tie.Need-copy-at-requires-4
 copy-at-requires-4 c κs =
@@ -74,22 +29,22 @@ pub link-line-spec : {M : Type 1} → statement M
 link-line-spec =
     tie.close
     (tie.spec
-    array-write-line
-    array-write-line-2
-    slice-aggregate-copy-at
-    copy-at-requires
-    array-write-line-3
-    slice-aggregate-copy-at-2
+    (λ c. search needs)
+    (λ c. search needs)
+    (λ c. search needs)
+    (λ c κs. search needs)
+    (λ c. search needs)
+    (λ c. search needs)
     copy-at-requires-2
-    add-at
-    array-write-line-4
-    slice-aggregate-copy-at-3
-    add-copy-at
+    (λ c. search needs)
+    (λ c. search needs)
+    (λ c. search needs)
+    (λ c. search needs)
     copy-at-requires-3
-    add-at-2
-    add-at-3
-    array-write-line-5
-    slice-aggregate-copy-at-4
-    add-copy-at-2
+    (λ c. search needs)
+    (λ c. search needs)
+    (λ c. search needs)
+    (λ c. search needs)
+    (λ c. search needs)
     copy-at-requires-4
     returns)

@@ -6,23 +6,11 @@ use borrow.Author.Needs.{needs}
 use Rattle.formats.proofs.link.read_link.Statement.{statement}
 use Rattle.formats.proofs.link.read_link.Tie as tie
 
-refused-requires : tie.Need-refused-requires
-refused-requires c κs = search needs
-
 returns : tie.Need-returns
 returns c = c .refused .ensures ∙ ap lineOf (sym (link-short (c .before .before .before .args .line .now) (c .before .if1 .taken)))
 
-refused-requires-2 : tie.Need-refused-requires-2
-refused-requires-2 c κs = search needs
-
 returns-2 : tie.Need-returns-2
 returns-2 c = c .refused2 .ensures ∙ ap lineOf (sym (link-long (c .before .before .before .before .args .line .now) (c .before .before .if1 .left) (c .before .if2 .taken)))
-
-first-barred-requires : tie.Need-first-barred-requires
-first-barred-requires c κs = search needs
-
-refused-requires-3 : tie.Need-refused-requires-3
-refused-requires-3 c κs = search needs
 
 returns-3 : tie.Need-returns-3
 returns-3 c =
@@ -30,20 +18,11 @@ returns-3 c =
     let e = c .before .before .first-barred .ensures in
     barred-is (readLink l) _ _ _ e (c .refused3 .ensures) (link-barred l (c .before .before .before .before .if1 .left) (c .before .before .before .if2 .left) (λ q. c .before .if3 .taken (e ∙ q)))
 
-shared-slice-read-if4 : tie.Need-shared-slice-read-if4
-shared-slice-read-if4 c = search needs
-
-refused-requires-4 : tie.Need-refused-requires-4
-refused-requires-4 c κs = search needs
-
 returns-4 : tie.Need-returns-4
 returns-4 c =
     let l = c .before .before .before .before .before .before .before .before .args .line .now in
     c .refused4 .ensures
     ∙ ap lineOf (sym (link-clear l (c .before .before .before .before .before .before .if1 .left) (c .before .before .before .before .before .if2 .left) (sym (c .before .before .before .before .first-barred .ensures) ∙ c .before .before .before .if3 .left) ∙ parts-no-blank l (c .before .if4 .taken)))
-
-read-parts-requires : tie.Need-read-parts-requires
-read-parts-requires c κs = search needs
 
 returns-5 : tie.Need-returns-5
 returns-5 c =
@@ -55,15 +34,15 @@ pub read-link-spec : {M : Type 1} → statement M
 read-link-spec =
     tie.close
     (tie.spec
-    refused-requires
+    (λ c κs. search needs)
     returns
-    refused-requires-2
+    (λ c κs. search needs)
     returns-2
-    first-barred-requires
-    refused-requires-3
+    (λ c κs. search needs)
+    (λ c κs. search needs)
     returns-3
-    shared-slice-read-if4
-    refused-requires-4
+    (λ c. search needs)
+    (λ c κs. search needs)
     returns-4
-    read-parts-requires
+    (λ c κs. search needs)
     returns-5)

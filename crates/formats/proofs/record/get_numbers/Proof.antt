@@ -23,48 +23,6 @@ loop-holds : tie.Need-loop-holds Inv-loop μ-loop
 unfolding slotsIn flagsOf valuesOf
 loop-holds c = (search needs, search needs, search needs, refl, refl)
 
-mul-at : tie.Need-mul-at Inv-loop μ-loop
-mul-at c = search needs
-
-shared-slice-read-f : tie.Need-shared-slice-read-f Inv-loop μ-loop
-shared-slice-read-f c = search needs
-
-flag-of-requires : tie.Need-flag-of-requires Inv-loop μ-loop
-flag-of-requires c κs = search needs
-
-slice-write-flags : tie.Need-slice-write-flags Inv-loop μ-loop
-slice-write-flags c = search needs
-
-add-read-word : tie.Need-add-read-word Inv-loop μ-loop
-add-read-word c = search needs
-
-sub-read-word : tie.Need-sub-read-word Inv-loop μ-loop
-sub-read-word c = search needs
-
-part-read-word-start : tie.Need-part-read-word-start Inv-loop μ-loop
-part-read-word-start c = search needs
-
-part-read-word-end : tie.Need-part-read-word-end Inv-loop μ-loop
-part-read-word-end c = search needs
-
-read-word-requires : tie.Need-read-word-requires Inv-loop μ-loop
-read-word-requires c κs = search needs
-
-signed-of-requires : tie.Need-signed-of-requires Inv-loop μ-loop
-signed-of-requires c κs = search needs
-
-value-of-requires : tie.Need-value-of-requires Inv-loop μ-loop
-value-of-requires c κs = search needs
-
-mul-t20 : tie.Need-mul-t20 Inv-loop μ-loop
-mul-t20 c = search needs
-
-slice-set-from-values : tie.Need-slice-set-from-values Inv-loop μ-loop
-slice-set-from-values c = search needs
-
-add-i : tie.Need-add-i Inv-loop μ-loop
-add-i c = search needs
-
 loop-less : tie.Need-loop-less Inv-loop μ-loop
 loop-less c = simp length-set (omega arith)
 
@@ -75,12 +33,6 @@ loop-again c =
     let z = toZ-ofZ w64 (c .value-of .result) (record { sfits = c .value-of .ok }) in
     let y = toZ-ofZ w64 (c .before .signed-of .result) (record { sfits = c .before .signed-of .ok }) in
     (simp length-set (omega (arith, c .before .before .before .before .before .before .loop-test .taken)), simp length-set (l .inv .1), simp length-set (l .inv .2), flags-turn (l .i) (8 * l .i) (a .from .now) (a .bytes .now) refl (a .flags .now) (l .flags) _ (omega (arith, l .inv .1, l .inv .2, c .before .before .before .before .before .before .before .before .before .before .before .pre .0, c .before .before .before .before .before .before .loop-test .taken)) (l .inv .3) (c .before .before .before .before .flag-of .ensures), values-more (l .i) (8 * l .i) (a .from .now) (a .bytes .now) refl (a .values .now) (l .values) _ _ (omega (arith, l .inv .2, c .before .before .before .before .before .before .loop-test .taken)) (l .inv .4) (c .before .before .read-word .ensures) (z ∙ c .value-of .ensures ∙ ap (λ (x : ℤ). valueOf (slotOf (getD (a .from .now) (l .i) 0) x)) (y ∙ c .before .signed-of .ensures)))
-
-same-length : tie.Need-same-length Inv-loop μ-loop
-same-length c = search needs
-
-same-length-2 : tie.Need-same-length-2 Inv-loop μ-loop
-same-length-2 c = search needs
 
 returns : tie.Need-returns Inv-loop μ-loop
 returns c =
@@ -98,22 +50,22 @@ get-numbers-spec =
     Inv-loop
     μ-loop
     loop-holds
-    mul-at
-    shared-slice-read-f
-    flag-of-requires
-    slice-write-flags
-    add-read-word
-    sub-read-word
-    part-read-word-start
-    part-read-word-end
-    read-word-requires
-    signed-of-requires
-    value-of-requires
-    mul-t20
-    slice-set-from-values
-    add-i
+    (λ c. search needs)
+    (λ c. search needs)
+    (λ c κs. search needs)
+    (λ c. search needs)
+    (λ c. search needs)
+    (λ c. search needs)
+    (λ c. search needs)
+    (λ c. search needs)
+    (λ c κs. search needs)
+    (λ c κs. search needs)
+    (λ c κs. search needs)
+    (λ c. search needs)
+    (λ c. search needs)
+    (λ c. search needs)
     loop-less
     loop-again
-    same-length
-    same-length-2
+    (λ c. search needs)
+    (λ c. search needs)
     returns)

@@ -9,18 +9,6 @@ use borrow.Author.Needs.{needs}
 use Rattle.formats.proofs.record.pack.Statement.{statement}
 use Rattle.formats.proofs.record.pack.Tie as tie
 
-add-numbers : tie.Need-add-numbers
-add-numbers c = search needs
-
-mul-chars : tie.Need-mul-chars
-mul-chars c = search needs
-
-add-chars : tie.Need-add-chars
-add-chars c = search needs
-
-slice-write-out : tie.Need-slice-write-out
-slice-write-out c = search needs
-
 copy-at-requires : tie.Need-copy-at-requires
 copy-at-requires c κs = omega (arith, length-set (c .before .before .before .before .args .out .now) 0 (c .before .before .before .before .args .kind), c .before .before .before .before .pre)
 
@@ -44,10 +32,10 @@ pub pack-spec : {M : Type 1} → statement M
 pack-spec =
     tie.close
     (tie.spec
-    add-numbers
-    mul-chars
-    add-chars
-    slice-write-out
+    (λ c. search needs)
+    (λ c. search needs)
+    (λ c. search needs)
+    (λ c. search needs)
     copy-at-requires
     values-at-requires
     copy-at-requires-2

@@ -8,9 +8,6 @@ use borrow.Author.Needs.{needs}
 use Rattle.formats.proofs.record.pattern_of.Statement.{statement}
 use Rattle.formats.proofs.record.pattern_of.Tie as tie
 
-magnitude-of-requires : tie.Need-magnitude-of-requires
-magnitude-of-requires c κs = search needs
-
 sub-result : tie.Need-sub-result
 sub-result c =
     let m : c .magnitude-of .result ≡ natAbs (c .before .before .args .v) = c .magnitude-of .ensures ∙ ap natAbs (toZ-ofZ w64 (c .before .before .args .v) (search needs)) in
@@ -26,9 +23,6 @@ returns c =
     let m : c .magnitude-of .result ≡ natAbs (c .before .before .args .v) = c .magnitude-of .ensures ∙ ap natAbs (toZ-ofZ w64 (c .before .before .args .v) (search needs)) in
     rw m (pattern-neg (c .before .before .args .v) (search needs) (c .before .if1 .taken) .is)
 
-magnitude-of-requires-2 : tie.Need-magnitude-of-requires-2
-magnitude-of-requires-2 c κs = search needs
-
 returns-2 : tie.Need-returns-2
 returns-2 c =
     c .magnitude-of2 .ensures ∙ ap natAbs (toZ-ofZ w64 (c .before .before .args .v) (search needs)) ∙ pattern-pos (c .before .before .args .v) (search needs) (c .before .if1 .left)
@@ -37,9 +31,9 @@ pub pattern-of-spec : {M : Type 1} → statement M
 pattern-of-spec =
     tie.close
     (tie.spec
-    magnitude-of-requires
+    (λ c κs. search needs)
     sub-result
     sub-result-2
     returns
-    magnitude-of-requires-2
+    (λ c κs. search needs)
     returns-2)

@@ -21,48 +21,12 @@ loop-holds : tie.Need-loop-holds Inv-loop μ-loop
 unfolding valueBytes
 loop-holds c = (search needs, search needs, refl)
 
-mul-at : tie.Need-mul-at Inv-loop μ-loop
-mul-at c = search needs
-
-add-write-word : tie.Need-add-write-word Inv-loop μ-loop
-add-write-word c = search needs
-
-sub-write-word : tie.Need-sub-write-word Inv-loop μ-loop
-sub-write-word c = search needs
-
-part-write-word-start : tie.Need-part-write-word-start Inv-loop μ-loop
-part-write-word-start c = search needs
-
-part-write-word-end : tie.Need-part-write-word-end Inv-loop μ-loop
-part-write-word-end c = search needs
-
-mul-pattern-of : tie.Need-mul-pattern-of Inv-loop μ-loop
-mul-pattern-of c = search needs
-
-shared-slice-copy-out-pattern-of : tie.Need-shared-slice-copy-out-pattern-of Inv-loop μ-loop
-shared-slice-copy-out-pattern-of c = search needs
-
-pattern-of-requires : tie.Need-pattern-of-requires Inv-loop μ-loop
-pattern-of-requires c κs = search needs
-
-write-word-requires : tie.Need-write-word-requires Inv-loop μ-loop
-write-word-requires c κs = search needs
-
-add-i : tie.Need-add-i Inv-loop μ-loop
-add-i c = search needs
-
-loop-less : tie.Need-loop-less Inv-loop μ-loop
-loop-less c = search needs
-
 loop-again : tie.Need-loop-again Inv-loop μ-loop
 loop-again c =
     let l = c .before .before .before .before .before .before .before .loop in
     let a = c .before .before .before .before .before .before .before .before .before .args in
     let z = toZ-ofZ w64 (getD (a .values .now) (l .i) (pos 0)) (search needs) in
     (search needs, search needs, values-turn (a .values .now) (a .out .now) (l .out) _ (l .i) (8 * l .i) _ (c .before .before .before .before .before .before .loop-test .taken) (c .before .before .before .before .before .before .before .before .before .pre) refl (l .inv .2) (c .before .before .before .pattern-of .ensures ∙ ap patternOf z) (c .before .before .write-word .ensures))
-
-same-length : tie.Need-same-length Inv-loop μ-loop
-same-length c = search needs
 
 returns : tie.Need-returns Inv-loop μ-loop
 returns c =
@@ -77,17 +41,17 @@ put-values-spec =
     Inv-loop
     μ-loop
     loop-holds
-    mul-at
-    add-write-word
-    sub-write-word
-    part-write-word-start
-    part-write-word-end
-    mul-pattern-of
-    shared-slice-copy-out-pattern-of
-    pattern-of-requires
-    write-word-requires
-    add-i
-    loop-less
+    (λ c. search needs)
+    (λ c. search needs)
+    (λ c. search needs)
+    (λ c. search needs)
+    (λ c. search needs)
+    (λ c. search needs)
+    (λ c. search needs)
+    (λ c κs. search needs)
+    (λ c κs. search needs)
+    (λ c. search needs)
+    (λ c. search needs)
     loop-again
-    same-length
+    (λ c. search needs)
     returns)

@@ -8,27 +8,6 @@ use borrow.Author.Needs.{needs}
 use Rattle.formats.proofs.record.values_at.Statement.{statement}
 use Rattle.formats.proofs.record.values_at.Tie as tie
 
-mul-end : tie.Need-mul-end
-mul-end c = search needs
-
-add-end : tie.Need-add-end
-add-end c = search needs
-
-sub-put-values : tie.Need-sub-put-values
-sub-put-values c = search needs
-
-part-put-values-start : tie.Need-part-put-values-start
-part-put-values-start c = search needs
-
-part-put-values-end : tie.Need-part-put-values-end
-part-put-values-end c = search needs
-
-put-values-requires : tie.Need-put-values-requires
-put-values-requires c κs = search needs
-
-same-length : tie.Need-same-length
-same-length c = search needs
-
 returns : tie.Need-returns
 returns c =
     let a = c .before .before .before .before .before .args in
@@ -38,11 +17,11 @@ pub values-at-spec : {M : Type 1} → statement M
 values-at-spec =
     tie.close
     (tie.spec
-    mul-end
-    add-end
-    sub-put-values
-    part-put-values-start
-    part-put-values-end
-    put-values-requires
-    same-length
+    (λ c. search needs)
+    (λ c. search needs)
+    (λ c. search needs)
+    (λ c. search needs)
+    (λ c. search needs)
+    (λ c κs. search needs)
+    (λ c. search needs)
     returns)

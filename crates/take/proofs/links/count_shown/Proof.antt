@@ -32,12 +32,6 @@ entry-at-requires c κs = (c .before .before .before .before .pre .0 .inside, om
 add-end : tie.Need-add-end Inv-loop μ-loop
 add-end c = omega (arith, link-end c)
 
-sub-shown-link : tie.Need-sub-shown-link Inv-loop μ-loop
-sub-shown-link c = search needs
-
-part-shown-link-start : tie.Need-part-shown-link-start Inv-loop μ-loop
-part-shown-link-start c = search needs
-
 part-shown-link-end : tie.Need-part-shown-link-end Inv-loop μ-loop
 part-shown-link-end c = link-end c
 
@@ -50,9 +44,6 @@ shown-link-requires c κs =
 
 add-n : tie.Need-add-n Inv-loop μ-loop
 add-n c = omega (arith, c .shown-link .ensures .1, c .before .before .before .before .before .loop .inv .1, c .before .before .before .before .before .loop .inv .2, c .before .before .before .before .before .before .before .pre .0 .few)
-
-add-i : tie.Need-add-i Inv-loop μ-loop
-add-i c = search needs
 
 loop-less : tie.Need-loop-less Inv-loop μ-loop
 loop-less c = omega (arith, c .before .before .before .if1 .taken)
@@ -82,12 +73,12 @@ count-shown-spec =
     loop-holds
     entry-at-requires
     add-end
-    sub-shown-link
-    part-shown-link-start
+    (λ c. search needs)
+    (λ c. search needs)
     part-shown-link-end
     shown-link-requires
     add-n
-    add-i
+    (λ c. search needs)
     loop-less
     loop-again
     returns)

@@ -7,27 +7,6 @@ use Rattle.take.proofs.laws.Text.{put-more, put-as}
 use Rattle.take.proofs.links.put_links.Statement.{statement}
 use Rattle.take.proofs.links.put_links.Tie as tie
 
-slice-aggregate-put-bytes : tie.Need-slice-aggregate-put-bytes
-slice-aggregate-put-bytes c = search needs
-
-put-bytes-requires : tie.Need-put-bytes-requires
-put-bytes-requires c κs = search needs
-
-count-shown-requires : tie.Need-count-shown-requires
-count-shown-requires c κs = search needs
-
-put-number-requires : tie.Need-put-number-requires
-put-number-requires c κs = search needs
-
-put-byte-requires : tie.Need-put-byte-requires
-put-byte-requires c κs = search needs
-
-put-shown-requires : tie.Need-put-shown-requires
-put-shown-requires c κs = search needs
-
-same-length : tie.Need-same-length
-same-length c = search needs
-
 returns : tie.Need-returns
 unfolding section
 returns c =
@@ -41,11 +20,11 @@ pub put-links-spec : {M : Type 1} → statement M
 put-links-spec =
     tie.close
     (tie.spec
-    slice-aggregate-put-bytes
-    put-bytes-requires
-    count-shown-requires
-    put-number-requires
-    put-byte-requires
-    put-shown-requires
-    same-length
+    (λ c. search needs)
+    (λ c κs. search needs)
+    (λ c κs. search needs)
+    (λ c κs. search needs)
+    (λ c κs. search needs)
+    (λ c κs. search needs)
+    (λ c. search needs)
     returns)

@@ -35,12 +35,6 @@ entry-at-requires c κs = (c .before .before .before .before .before .pre .0 .in
 add-end : tie.Need-add-end Inv-loop μ-loop
 add-end c = omega (arith, link-end c)
 
-sub-put-link : tie.Need-sub-put-link Inv-loop μ-loop
-sub-put-link c = search needs
-
-part-put-link-start : tie.Need-part-put-link-start Inv-loop μ-loop
-part-put-link-start c = search needs
-
 part-put-link-end : tie.Need-part-put-link-end Inv-loop μ-loop
 part-put-link-end c = link-end (c .before)
 
@@ -52,9 +46,6 @@ put-link-requires c κs =
       ap length (entry-part (d .args .of) (d .args .room .now) (l .i) t (d .pre .1) (c .before .before .entry-at .ensures)) ∙ entry-length (d .args .of) (d .args .room .now) (d .pre .0 .inside) (l .i) t ∙ d .pre .1,
       omega (arith, l .inv .1, l .inv .2, d .pre .2, entry-fits 256 (l .i) (d .args .of .count) t),
     )
-
-add-i : tie.Need-add-i Inv-loop μ-loop
-add-i c = search needs
 
 loop-less : tie.Need-loop-less Inv-loop μ-loop
 loop-less c = omega (arith, c .before .before .before .before .before .before .if1 .taken)
@@ -71,9 +62,6 @@ loop-again c =
       omega (arith, p .ensures .1, l .inv .2),
       omega (arith, t),
     )
-
-same-length : tie.Need-same-length Inv-loop μ-loop
-same-length c = search needs
 
 returns : tie.Need-returns Inv-loop μ-loop
 returns c =
@@ -96,12 +84,12 @@ put-shown-spec =
     loop-holds
     entry-at-requires
     add-end
-    sub-put-link
-    part-put-link-start
+    (λ c. search needs)
+    (λ c. search needs)
     part-put-link-end
     put-link-requires
-    add-i
+    (λ c. search needs)
     loop-less
     loop-again
-    same-length
+    (λ c. search needs)
     returns)

@@ -7,26 +7,14 @@ use Rattle.take.proofs.laws.Links.{line-says, shown-none, shown-one}
 use Rattle.take.proofs.links.shown_link.Statement.{statement}
 use Rattle.take.proofs.links.shown_link.Tie as tie
 
-shared-slice-read-end : tie.Need-shared-slice-read-end
-shared-slice-read-end c = search needs
-
 cast-end : tie.Need-cast-end
 cast-end c = omega (arith, c .shared-slice-known2 .given 0)
 
 add-end : tie.Need-add-end
 add-end c = omega (arith, c .shared-slice-known2 .given 0)
 
-sub-is-delete : tie.Need-sub-is-delete
-sub-is-delete c = search needs
-
-part-is-delete-start : tie.Need-part-is-delete-start
-part-is-delete-start c = search needs
-
 part-is-delete-end : tie.Need-part-is-delete-end
 part-is-delete-end c = omega (arith, c .shared-slice-known2 .given 0, c .before .before .pre)
-
-is-delete-requires : tie.Need-is-delete-requires
-is-delete-requires c κs = search needs
 
 returns : tie.Need-returns
 returns c =
@@ -42,12 +30,12 @@ pub shown-link-spec : {M : Type 1} → statement M
 shown-link-spec =
     tie.close
     (tie.spec
-    shared-slice-read-end
+    (λ c. search needs)
     cast-end
     add-end
-    sub-is-delete
-    part-is-delete-start
+    (λ c. search needs)
+    (λ c. search needs)
     part-is-delete-end
-    is-delete-requires
+    (λ c κs. search needs)
     returns
     returns-2)

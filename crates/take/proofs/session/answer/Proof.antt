@@ -6,18 +6,6 @@ use borrow.Author.Needs.{needs}
 use Rattle.take.proofs.session.answer.Statement.{statement}
 use Rattle.take.proofs.session.answer.Tie as tie
 
-take-ordered-requires : tie.Need-take-ordered-requires
-take-ordered-requires c κs = search needs
-
-put-answer-requires : tie.Need-put-answer-requires
-put-answer-requires c κs = search needs
-
-same-length : tie.Need-same-length
-same-length c = search needs
-
-same-length-2 : tie.Need-same-length-2
-same-length-2 c = search needs
-
 returns : tie.Need-returns
 returns c =
     let t = c .before .before .before .before .before .before .before .take-ordered .ensures in
@@ -33,4 +21,4 @@ returns c =
 pub answer-spec : {M : Type 1} → statement M
 answer-spec =
     tie.close
-    (tie.spec take-ordered-requires put-answer-requires same-length same-length-2 returns)
+    (tie.spec (λ c κs. search needs) (λ c κs. search needs) (λ c. search needs) (λ c. search needs) returns)

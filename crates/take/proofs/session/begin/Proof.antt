@@ -8,18 +8,9 @@ use borrow.Author.Needs.{needs}
 use Rattle.take.proofs.session.begin.Statement.{statement}
 use Rattle.take.proofs.session.begin.Tie as tie
 
-slice-aggregate-put-bytes : tie.Need-slice-aggregate-put-bytes
-slice-aggregate-put-bytes c = search needs
-
-put-bytes-requires : tie.Need-put-bytes-requires
-put-bytes-requires c κs = search needs
-
-same-length : tie.Need-same-length
-same-length c = search needs
-
 returns : tie.Need-returns
 unfolding heading opened
 returns c = (c .before .before .put-bytes .ensures .bytes, omega (arith, c .before .before .put-bytes .ensures .place), λ (room line : List ℕ). refl, refl, refl, refl)
 
 pub begin-spec : {M : Type 1} → statement M
-begin-spec = tie.close (tie.spec slice-aggregate-put-bytes put-bytes-requires same-length returns)
+begin-spec = tie.close (tie.spec (λ c. search needs) (λ c κs. search needs) (λ c. search needs) returns)

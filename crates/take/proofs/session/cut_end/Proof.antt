@@ -5,17 +5,11 @@ use borrow.Author.Needs.{needs}
 use Rattle.take.proofs.session.cut_end.Statement.{statement}
 use Rattle.take.proofs.session.cut_end.Tie as tie
 
-sub-if1 : tie.Need-sub-if1
-sub-if1 c = search needs
-
 returns : tie.Need-returns
 returns c = (search needs, search needs, λ (s : List ℕ). cut-whole (c .before .args .end - c .before .args .from) s (c .if1 .taken))
-
-add-result : tie.Need-add-result
-add-result c = search needs
 
 returns-2 : tie.Need-returns-2
 returns-2 c = (search needs, search needs, λ (s : List ℕ). cut-part (c .before .args .from) (c .before .args .end - c .before .args .from) s (search needs))
 
 pub cut-end-spec : {M : Type 1} → statement M
-cut-end-spec = tie.close (tie.spec sub-if1 returns add-result returns-2)
+cut-end-spec = tie.close (tie.spec (λ c. search needs) returns (λ c. search needs) returns-2)

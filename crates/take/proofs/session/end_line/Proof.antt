@@ -10,27 +10,6 @@ returns c =
     let a = c .before .before .before .before .args in
     end-none (now (a .room)) (now (a .line)) (now (a .out)) (a .p) (c .before .before .before .before .pre .0) (c .if1 .taken)
 
-add-number : tie.Need-add-number
-add-number c = search needs
-
-sub-answer : tie.Need-sub-answer
-sub-answer c = search needs
-
-part-answer-start : tie.Need-part-answer-start
-part-answer-start c = search needs
-
-part-answer-end : tie.Need-part-answer-end
-part-answer-end c = search needs
-
-answer-requires : tie.Need-answer-requires
-answer-requires c κs = search needs
-
-same-length : tie.Need-same-length
-same-length c = search needs
-
-same-length-2 : tie.Need-same-length-2
-same-length-2 c = search needs
-
 returns-2 : tie.Need-returns-2
 returns-2 c =
     let a = c .before .before .before .before .before .before .before .before .before .before .before .before .before .args in
@@ -42,11 +21,11 @@ end-line-spec =
     tie.close
     (tie.spec
     returns
-    add-number
-    sub-answer
-    part-answer-start
-    part-answer-end
-    answer-requires
-    same-length
-    same-length-2
+    (λ c. search needs)
+    (λ c. search needs)
+    (λ c. search needs)
+    (λ c. search needs)
+    (λ c κs. search needs)
+    (λ c. search needs)
+    (λ c. search needs)
     returns-2)

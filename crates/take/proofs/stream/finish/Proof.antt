@@ -8,29 +8,11 @@ use borrow.Author.Needs.{needs}
 use Rattle.take.proofs.stream.finish.Statement.{statement}
 use Rattle.take.proofs.stream.finish.Tie as tie
 
-make-space-requires : tie.Need-make-space-requires
-make-space-requires c κs = search needs
-
 end-line-requires : tie.Need-end-line-requires
 end-line-requires c κs =
     let a = c .before .before .before .before .before .before .before .args in
     let m = c .make-space in
     (emptied-sound (now (a .room)) (now (a .line)) (m .ensures .0) (now (a .out)) (c .before .before .before .before .before .before .before .pre .0) (omega (arith, m .ensures .1)), m .ensures .1, omega (arith, m .ensures .0 .number, c .before .before .before .before .before .before .before .pre .1))
-
-flush-requires : tie.Need-flush-requires
-flush-requires c κs = search needs
-
-put-catalogue-requires : tie.Need-put-catalogue-requires
-put-catalogue-requires c κs = search needs
-
-flush-requires-2 : tie.Need-flush-requires-2
-flush-requires-2 c κs = search needs
-
-same-length : tie.Need-same-length
-same-length c = search needs
-
-same-length-2 : tie.Need-same-length-2
-same-length-2 c = search needs
 
 returns : tie.Need-returns
 returns c =
@@ -46,11 +28,11 @@ pub finish-spec : {M : Type 1} → statement M
 finish-spec =
     tie.close
     (tie.spec
-    make-space-requires
+    (λ c κs. search needs)
     end-line-requires
-    flush-requires
-    put-catalogue-requires
-    flush-requires-2
-    same-length
-    same-length-2
+    (λ c κs. search needs)
+    (λ c κs. search needs)
+    (λ c κs. search needs)
+    (λ c. search needs)
+    (λ c. search needs)
     returns)

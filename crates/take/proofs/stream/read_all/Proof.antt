@@ -68,12 +68,6 @@ returns-2 c =
     let l = c .before .before .before .before .before .before .before .before .before .before .before .before .before .before .before .before .before .before .loop in
     (passed-more (take (t .result .count) (t .last .1 .1 .0)) (l .inv .0) (t .ensures .0), omega (arith, t .ensures .1, l .inv .1, c .before .before .before .before .before .before .before .before .before .before .before .before .before .before .before .before .before .loop-test .taken))
 
-sub-reads : tie.Need-sub-reads Inv-loop μ-loop
-sub-reads c = search needs
-
-loop-less : tie.Need-loop-less Inv-loop μ-loop
-loop-less c = search needs
-
 loop-again : tie.Need-loop-again Inv-loop μ-loop
 loop-again c =
     let t = c .before .before .before .before .before .before .before .before .before .before .before .before .read-next in
@@ -127,8 +121,8 @@ read-all-spec =
     same-length-7
     same-length-8
     returns-2
-    sub-reads
-    loop-less
+    (λ c. search needs)
+    (λ c. search needs)
     loop-again
     too-long-requires
     same-length-9

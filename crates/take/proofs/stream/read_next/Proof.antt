@@ -11,27 +11,6 @@ use borrow.Author.Needs.{needs}
 use Rattle.take.proofs.stream.read_next.Statement.{statement}
 use Rattle.take.proofs.stream.read_next.Tie as tie
 
-read-some-requires : tie.Need-read-some-requires
-read-some-requires c κs = search needs
-
-enum-told : tie.Need-enum-told
-enum-told c = search needs
-
-enum-told-2 : tie.Need-enum-told-2
-enum-told-2 c = search needs
-
-stop-requires : tie.Need-stop-requires
-stop-requires c κs = search needs
-
-enum-known-n : tie.Need-enum-known-n
-enum-known-n c = search needs
-
-sub-take-chunk : tie.Need-sub-take-chunk
-sub-take-chunk c = search needs
-
-part-take-chunk-start : tie.Need-part-take-chunk-start
-part-take-chunk-start c = search needs
-
 part-take-chunk-end : tie.Need-part-take-chunk-end
 part-take-chunk-end c =
     let r = c .before .before .before .before .before .before .before .before .before .read-some in
@@ -43,37 +22,16 @@ take-chunk-requires c κs =
     let n : ℕ = c .before .before .before .before .before .before .n .given .0 .0 in
     (restarted (c .before .before .before .before .before .before .before .before .before .before .before .before .before .before .before .before .pre .0), omega arith, omega (arith, length-take (n - 0) (r .last .0), r .kept .0, c .before .before .before .before .before .before .before .before .before .before .before .before .before .before .before .before .pre .1, c .before .before .before .before .before .before .before .before .before .before .before .before .before .before .before .before .pre .2))
 
-same-length : tie.Need-same-length
-same-length c = search needs
-
 returns : tie.Need-returns
 returns c =
     let a = c .before .before .before .before .before .before .before .before .before .before .args in
     (taken-none (now (a .room)) (now (a .line)) (now (a .out)) (a .p) (c .before .before .before .before .before .before .before .before .before .before .pre .0), omega arith)
-
-same-length-2 : tie.Need-same-length-2
-same-length-2 c = search needs
-
-same-length-3 : tie.Need-same-length-3
-same-length-3 c = search needs
 
 returns-2 : tie.Need-returns-2
 returns-2 c =
     let a = c .before .before .before .before .before .before .before .before .before .before .before .before .args in
     let s = c .stop in
     (taken-emptied (now (a .room)) (now (a .line)) (now (a .out)) (s .ensures .0) (omega (arith, s .ensures .1)) (c .before .before .before .before .before .before .before .before .before .before .before .before .pre .0), omega (arith, s .ensures .0 .number))
-
-same-length-4 : tie.Need-same-length-4
-same-length-4 c = search needs
-
-same-length-5 : tie.Need-same-length-5
-same-length-5 c = search needs
-
-same-length-6 : tie.Need-same-length-6
-same-length-6 c = search needs
-
-same-length-7 : tie.Need-same-length-7
-same-length-7 c = search needs
 
 returns-3 : tie.Need-returns-3
 returns-3 c =
@@ -93,22 +51,22 @@ pub read-next-spec : {M : Type 1} → statement M
 read-next-spec =
     tie.close
     (tie.spec
-    read-some-requires
-    enum-told
-    enum-told-2
-    stop-requires
-    enum-known-n
-    sub-take-chunk
-    part-take-chunk-start
+    (λ c κs. search needs)
+    (λ c. search needs)
+    (λ c. search needs)
+    (λ c κs. search needs)
+    (λ c. search needs)
+    (λ c. search needs)
+    (λ c. search needs)
     part-take-chunk-end
     take-chunk-requires
-    same-length
+    (λ c. search needs)
     returns
-    same-length-2
-    same-length-3
+    (λ c. search needs)
+    (λ c. search needs)
     returns-2
-    same-length-4
-    same-length-5
-    same-length-6
-    same-length-7
+    (λ c. search needs)
+    (λ c. search needs)
+    (λ c. search needs)
+    (λ c. search needs)
     returns-3)

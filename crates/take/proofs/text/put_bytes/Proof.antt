@@ -5,17 +5,8 @@ use borrow.Author.Needs.{needs}
 use Rattle.take.proofs.text.put_bytes.Statement.{statement}
 use Rattle.take.proofs.text.put_bytes.Tie as tie
 
-copy-in-requires : tie.Need-copy-in-requires
-copy-in-requires c κs = search needs
-
-add-result : tie.Need-add-result
-add-result c = search needs
-
-same-length : tie.Need-same-length
-same-length c = search needs
-
 returns : tie.Need-returns
 returns c = put-all (now (c .before .before .before .before .before .before .args .out)) (now (c .before .before .before .before .before .before .args .s)) (c .before .before .before .before .before .before .args .at) (search needs) (c .before .before .copy-in .ensures)
 
 pub put-bytes-spec : {M : Type 1} → statement M
-put-bytes-spec = tie.close (tie.spec copy-in-requires add-result same-length returns)
+put-bytes-spec = tie.close (tie.spec (λ c κs. search needs) (λ c. search needs) (λ c. search needs) returns)

@@ -27,18 +27,12 @@ links-in-requires c κs =
     let d = c .before .before .before .before in
     (c .deletions-in .ensures, rw (c .deletions-in .ensures) (long-enough (d .args .room .now) (d .pre .0) .2))
 
-slice-aggregate-put-section : tie.Need-slice-aggregate-put-section
-slice-aggregate-put-section c = search needs
-
 put-section-requires : tie.Need-put-section-requires
 put-section-requires c κs =
     let d = c .before .before .before .before .before .before .before in
     let h = c .before .before .before .before .held-in in
     let k = held-printable (d .args .room .now) (d .pre .0) (h .result) (h .ensures) in
     (k .0, omega (arith, k .1, d .pre .1))
-
-slice-aggregate-put-section-2 : tie.Need-slice-aggregate-put-section-2
-slice-aggregate-put-section-2 c = search needs
 
 put-section-requires-2 : tie.Need-put-section-requires-2
 put-section-requires-2 c κs =
@@ -62,9 +56,6 @@ put-links-requires c κs =
     let m = deletions-printable (d .args .room .now) (d .pre .0) (g .result) (g .ensures) in
     let n = links-printable (d .args .room .now) (d .pre .0) (l .result) (l .ensures) in
     (n .0, n .1, omega (arith, t .ensures .1, t .kept .0, u .ensures .1, u .kept .0, k .1, m .1, n .2, d .pre .1))
-
-same-length : tie.Need-same-length
-same-length c = search needs
 
 returns : tie.Need-returns
 unfolding catalogueText
@@ -91,10 +82,10 @@ put-catalogue-spec =
     held-in-requires
     deletions-in-requires
     links-in-requires
-    slice-aggregate-put-section
+    (λ c. search needs)
     put-section-requires
-    slice-aggregate-put-section-2
+    (λ c. search needs)
     put-section-requires-2
     put-links-requires
-    same-length
+    (λ c. search needs)
     returns)

@@ -33,12 +33,6 @@ add-end c =
     let i = c .before .before .before .before .loop .i in
     omega (arith, c .before .entry-at .ensures, entry-fits (d .args .of .size) i (d .args .of .count) (c .before .before .if1 .taken), d .pre .0 .inside .fits)
 
-sub-put-bytes : tie.Need-sub-put-bytes Inv-loop μ-loop
-sub-put-bytes c = search needs
-
-part-put-bytes-start : tie.Need-part-put-bytes-start Inv-loop μ-loop
-part-put-bytes-start c = search needs
-
 part-put-bytes-end : tie.Need-part-put-bytes-end Inv-loop μ-loop
 part-put-bytes-end c =
     let d = c .before .before .before .before .before .before .before .before in
@@ -78,9 +72,6 @@ put-byte-requires c κs =
       d .pre .1,
     )
 
-add-i : tie.Need-add-i Inv-loop μ-loop
-add-i c = search needs
-
 loop-less : tie.Need-loop-less Inv-loop μ-loop
 loop-less c =
     omega (arith, c .before .before .before .before .before .before .before .before .before .before .before .if1 .taken)
@@ -96,9 +87,6 @@ loop-again c =
     let t = entry-turn (a .of) (a .room .now) (d .pre .0 .inside) (l .i) (c .before .before .before .before .before .before .before .before .before .before .before .if1 .taken) (e .result) (e .ensures)
     (take (a .at) (a .out .now) ++ rowLines (entriesOf (a .of) (a .room .now))) (p .ensures) (q .ensures) (l .inv .0) in
     (t .0, q .kept .0 ∙ p .kept .0 ∙ l .inv .1, omega (arith, t .1, l .inv .2), omega (arith, c .before .before .before .before .before .before .before .before .before .before .before .if1 .taken))
-
-same-length : tie.Need-same-length Inv-loop μ-loop
-same-length c = search needs
 
 returns : tie.Need-returns Inv-loop μ-loop
 returns c =
@@ -120,13 +108,13 @@ put-entries-spec =
     loop-holds
     entry-at-requires
     add-end
-    sub-put-bytes
-    part-put-bytes-start
+    (λ c. search needs)
+    (λ c. search needs)
     part-put-bytes-end
     put-bytes-requires
     put-byte-requires
-    add-i
+    (λ c. search needs)
     loop-less
     loop-again
-    same-length
+    (λ c. search needs)
     returns)

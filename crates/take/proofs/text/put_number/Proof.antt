@@ -6,15 +6,9 @@ use borrow.Author.Needs.{needs}
 use Rattle.take.proofs.text.put_number.Statement.{statement}
 use Rattle.take.proofs.text.put_number.Tie as tie
 
-put-digits-requires : tie.Need-put-digits-requires
-put-digits-requires c κs = search needs
-
-same-length : tie.Need-same-length
-same-length c = search needs
-
 returns : tie.Need-returns
 unfolding decimal
 returns c = (c .before .before .put-digits .ensures, omega (arith, c .before .before .put-digits .ensures .place, decimal-few (c .before .before .before .before .before .args .n)))
 
 pub put-number-spec : {M : Type 1} → statement M
-put-number-spec = tie.close (tie.spec put-digits-requires same-length returns)
+put-number-spec = tie.close (tie.spec (λ c κs. search needs) (λ c. search needs) returns)

@@ -10,33 +10,15 @@ Inv-loop line c₀ length₀ c length = length ≤ 91
 abbrev μ-loop : tie.MeasureT-loop
 μ-loop line c₀ length₀ c length = 91 - length
 
-loop-holds : tie.Need-loop-holds Inv-loop μ-loop
-loop-holds c = search needs
-
-compare-first-requires : tie.Need-compare-first-requires Inv-loop μ-loop
-compare-first-requires c κs = search needs
-
-add-length : tie.Need-add-length Inv-loop μ-loop
-add-length c = search needs
-
-loop-less : tie.Need-loop-less Inv-loop μ-loop
-loop-less c = search needs
-
-loop-again : tie.Need-loop-again Inv-loop μ-loop
-loop-again c = search needs
-
-returns : tie.Need-returns Inv-loop μ-loop
-returns c = search needs
-
 pub lengths-spec : {M : Type 1} → statement M
 lengths-spec =
     tie.close
     (tie.spec
     Inv-loop
     μ-loop
-    loop-holds
-    compare-first-requires
-    add-length
-    loop-less
-    loop-again
-    returns)
+    (λ c. search needs)
+    (λ c κs. search needs)
+    (λ c. search needs)
+    (λ c. search needs)
+    (λ c. search needs)
+    (λ c. search needs))

@@ -9,25 +9,7 @@ Inv-loop line first rest end c₀ at₀ c at = at ≤ 78
 abbrev μ-loop : tie.MeasureT-loop
 μ-loop line first rest end c₀ at₀ c at = 78 - at
 
-loop-holds : tie.Need-loop-holds Inv-loop μ-loop
-loop-holds c = search needs
-
-runs-at-requires : tie.Need-runs-at-requires Inv-loop μ-loop
-runs-at-requires c κs = search needs
-
-add-at : tie.Need-add-at Inv-loop μ-loop
-add-at c = search needs
-
-loop-less : tie.Need-loop-less Inv-loop μ-loop
-loop-less c = search needs
-
-loop-again : tie.Need-loop-again Inv-loop μ-loop
-loop-again c = search needs
-
-returns : tie.Need-returns Inv-loop μ-loop
-returns c = search needs
-
 pub runs-spec : {M : Type 1} → statement M
 runs-spec =
     tie.close
-    (tie.spec Inv-loop μ-loop loop-holds runs-at-requires add-at loop-less loop-again returns)
+    (tie.spec Inv-loop μ-loop (λ c. search needs) (λ c κs. search needs) (λ c. search needs) (λ c. search needs) (λ c. search needs) (λ c. search needs))

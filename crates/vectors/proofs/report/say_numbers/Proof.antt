@@ -9,65 +9,23 @@ Inv-loop flags values from end i₀ t6 t7 i = i ≤ 19
 abbrev μ-loop : tie.MeasureT-loop
 μ-loop flags values from end i₀ t6 t7 i = end - i
 
-loop-holds : tie.Need-loop-holds Inv-loop μ-loop
-loop-holds c = search needs
-
-say-name-requires : tie.Need-say-name-requires Inv-loop μ-loop
-say-name-requires c κs = search needs
-
-slice-aggregate-say : tie.Need-slice-aggregate-say Inv-loop μ-loop
-slice-aggregate-say c = search needs
-
-say-requires : tie.Need-say-requires Inv-loop μ-loop
-say-requires c κs = search needs
-
-element-copy-out-say-number : tie.Need-element-copy-out-say-number Inv-loop μ-loop
-element-copy-out-say-number c = search needs
-
-mul-say-number : tie.Need-mul-say-number Inv-loop μ-loop
-mul-say-number c = search needs
-
-element-copy-out-say-number-2 : tie.Need-element-copy-out-say-number-2 Inv-loop μ-loop
-element-copy-out-say-number-2 c = search needs
-
-say-number-requires : tie.Need-say-number-requires Inv-loop μ-loop
-say-number-requires c κs = search needs
-
-slice-aggregate-say-2 : tie.Need-slice-aggregate-say-2 Inv-loop μ-loop
-slice-aggregate-say-2 c = search needs
-
-say-requires-2 : tie.Need-say-requires-2 Inv-loop μ-loop
-say-requires-2 c κs = search needs
-
-add-i : tie.Need-add-i Inv-loop μ-loop
-add-i c = search needs
-
-loop-less : tie.Need-loop-less Inv-loop μ-loop
-loop-less c = search needs
-
-loop-again : tie.Need-loop-again Inv-loop μ-loop
-loop-again c = search needs
-
-returns : tie.Need-returns Inv-loop μ-loop
-returns c = search needs
-
 pub say-numbers-spec : {M : Type 1} → statement M
 say-numbers-spec =
     tie.close
     (tie.spec
     Inv-loop
     μ-loop
-    loop-holds
-    say-name-requires
-    slice-aggregate-say
-    say-requires
-    element-copy-out-say-number
-    mul-say-number
-    element-copy-out-say-number-2
-    say-number-requires
-    slice-aggregate-say-2
-    say-requires-2
-    add-i
-    loop-less
-    loop-again
-    returns)
+    (λ c. search needs)
+    (λ c κs. search needs)
+    (λ c. search needs)
+    (λ c κs. search needs)
+    (λ c. search needs)
+    (λ c. search needs)
+    (λ c. search needs)
+    (λ c κs. search needs)
+    (λ c. search needs)
+    (λ c κs. search needs)
+    (λ c. search needs)
+    (λ c. search needs)
+    (λ c. search needs)
+    (λ c. search needs))

@@ -1,122 +1,158 @@
 use borrow.Author.Needs.{needs}
-use lib.Dec.{eqb}
-use mathlib.Core.Bool.{false}
-use lib.Seq.{slice}
-use lib.ListN.{take}
 use native.Mathlib.Omega.{arith}
-use mathlib.Core.Path.{_≡_, ap, sym, _∙_}
-use Prim.Native.Nat.{_+_, _≤_}
-use mathlib.Core.List.{[]}
+use mathlib.Core.Path.{_≡_, refl, _∙_, subst}
+use Prim.Native.Nat.{_≤_, _+_}
+use lib.ListN.{length, take}
+use lib.Seq.{slice}
+use Rattle.columns.specs.Column.{Col, width, groupWidth}
+use Rattle.columns.specs.Number.{intField, decField}
+use Rattle.columns.specs.Table.{rangeAt, ruleAt, groupAt, colOf, slotsOf}
+use Rattle.columns.proofs.laws.Table.{good-number, good-text, good-of-group, col-integer, col-decimal, col-text, col-letter, col-group, col-blank}
+use Rattle.columns.proofs.laws.Form.{good-int, good-dec, form-integer, form-decimal}
+use Rattle.columns.proofs.laws.Cursor.{read-number-is, read-text-is, read-letter-is, read-group-is, read-gap-is, found-as}
 use Rattle.columns.proofs.cursor.Cursor.cell.Statement.{statement}
-use Rattle.columns.proofs.laws.Table.{number-col, good-text, col-text, col-letter, col-clock, col-separator}
-use Rattle.columns.proofs.laws.Cursor.{readable-as, found-as, found-wide, read-text-is, read-letter-is, read-clock-is, read-gap-is}
-use Rattle.columns.specs.Reading.{readCell}
-use Rattle.columns.specs.Column.{Col, text}
-use Rattle.columns.specs.Table.{colOf, slotsOf}
 use Rattle.columns.proofs.cursor.Cursor.cell.Tie as tie
 
-number-requires : tie.Need-number-requires
-number-requires c κs =
+integer-requires : tie.Need-integer-requires
+integer-requires c κs =
     let a = c .before .before .before .before .args in
-    let n = number-col (a .c) (a .letters .now) (c .if1 .taken) in
-    (c .if1 .taken, readable-as _ _ _ _ _ _ _ _ (n .0) (c .before .before .before .before .pre .1))
+    let p = c .before .before .before .before .pre .1 .1 in
+    let e = col-integer (a .c) (a .ranges .now) (a .letters .now) (c .if1 .taken) in
+    (subst (λ (x : Col). a .self .at + width x ≤ length (a .line .now)) e (p .fits), good-int (a .c .width) (good-number (colOf (a .c) (a .ranges .now) (a .letters .now)) _ _ _ e (p .fine)) .1)
+
+judged-requires : tie.Need-judged-requires
+judged-requires c κs =
+    let p = c .before .before .before .before .before .before .pre .1 .1 in
+    (omega (arith, p .fits, p .low), (c .before .before .before .before .before .before .pre .1 .0, (p .same, p .seen)))
 
 returns : tie.Need-returns
 returns c =
-    let a = c .before .before .before .before .before .args in
-    let f = slice (a .self .at) (a .self .at + a .c .width) (a .line .now) in
+    let a = c .before .before .before .before .before .before .before .args in
     let seen = take (a .k) (slotsOf (a .flags .now) (a .values .now)) in
-    let n = number-col (a .c) (a .letters .now) (c .before .if1 .taken) in
-    found-as (readCell (colOf (a .c) []) seen (a .self .at) f) _ _ _ _ f (ap (λ (x : Col). readCell x seen (a .self .at) f) (sym (n .0))) (c .number .ensures)
+    let e = col-integer (a .c) (a .ranges .now) (a .letters .now) (c .before .before .before .if1 .taken) in
+    let w : a .c .width ≡ width (colOf (a .c) (a .ranges .now) (a .letters .now)) = rw e in
+    let b = slice (a .self .at) (a .self .at + a .c .width) (a .line .now) in
+    found-as _ (colOf (a .c) (a .ranges .now) (a .letters .now)) seen _ (a .self .at) (a .c .width) (a .line .now) w
+    (read-number-is (colOf (a .c) (a .ranges .now) (a .letters .now)) seen (a .self .at) b _ _ (a .c .required) (rangeAt (a .ranges .now) (a .c .last)) _ e (c .before .before .integer .ensures .0 ∙ form-integer (a .c .width) b) (c .judged .ensures b))
+    (record { answer = refl; next = c .before .before .integer .ensures .1 })
 
-text-requires : tie.Need-text-requires
-text-requires c κs =
+decimal-requires : tie.Need-decimal-requires
+decimal-requires c κs =
     let a = c .before .before .before .before .before .args in
-    let p = c .before .before .before .before .before .pre .1 in
-    (p .fits, good-text (a .c .width) (eqb (a .c .b) 1) (eqb (a .c .a) 1) (colOf (a .c) (a .letters .now)) (col-text (a .c) (a .letters .now) (c .if2 .taken)) (p .fine))
+    let p = c .before .before .before .before .before .pre .1 .1 in
+    let e = col-decimal (a .c) (a .ranges .now) (a .letters .now) (c .if2 .taken) in
+    let g = good-dec (a .c .width) (a .c .place) (good-number (colOf (a .c) (a .ranges .now) (a .letters .now)) _ _ _ e (p .fine)) in
+    (subst (λ (x : Col). a .self .at + width x ≤ length (a .line .now)) e (p .fits), (omega (arith, g .0), g .1))
+
+judged-requires-2 : tie.Need-judged-requires-2
+judged-requires-2 c κs =
+    let p = c .before .before .before .before .before .before .before .pre .1 .1 in
+    (omega (arith, p .fits, p .low), (c .before .before .before .before .before .before .before .pre .1 .0, (p .same, p .seen)))
 
 returns-2 : tie.Need-returns-2
 returns-2 c =
-    let a = c .before .before .before .before .before .before .args in
-    let f = slice (a .self .at) (a .self .at + a .c .width) (a .line .now) in
+    let a = c .before .before .before .before .before .before .before .before .args in
     let seen = take (a .k) (slotsOf (a .flags .now) (a .values .now)) in
-    found-as (readCell (text (a .c .width) (eqb (a .c .b) 1) false) [] (a .self .at) f) _ _ _ _ f
-    (read-text-is (colOf (a .c) (a .letters .now)) seen (a .self .at) f (a .c .width) (eqb (a .c .b) 1) (eqb (a .c .a) 1) (col-text (a .c) (a .letters .now) (c .before .if2 .taken)))
-    (c .text .ensures)
+    let e = col-decimal (a .c) (a .ranges .now) (a .letters .now) (c .before .before .before .if2 .taken) in
+    let w : a .c .width ≡ width (colOf (a .c) (a .ranges .now) (a .letters .now)) = rw e in
+    let b = slice (a .self .at) (a .self .at + a .c .width) (a .line .now) in
+    found-as _ (colOf (a .c) (a .ranges .now) (a .letters .now)) seen _ (a .self .at) (a .c .width) (a .line .now) w
+    (read-number-is (colOf (a .c) (a .ranges .now) (a .letters .now)) seen (a .self .at) b _ _ (a .c .required) (rangeAt (a .ranges .now) (a .c .last)) _ e (c .before .before .decimal .ensures .0 ∙ form-decimal (a .c .width) (a .c .place) b) (c .judged2 .ensures b))
+    (record { answer = refl; next = c .before .before .decimal .ensures .1 })
 
-add-letter : tie.Need-add-letter
-add-letter c = search needs
-
-letter-requires : tie.Need-letter-requires
-letter-requires c κs =
+text-requires : tie.Need-text-requires
+text-requires c κs =
     let a = c .before .before .before .before .before .before .args in
-    let p = c .before .before .before .before .before .before .pre .1 in
-    let w : a .c .width ≡ 1 = p .wide ∙ rw (col-letter (a .c) (a .letters .now) (c .if3 .taken)) in
-    (omega (arith, p .fits), search needs)
+    let p = c .before .before .before .before .before .before .pre .1 .1 in
+    let e = col-text (a .c) (a .ranges .now) (a .letters .now) (c .if3 .taken) in
+    let q = subst (λ (x : Col). a .self .at + width x ≤ length (a .line .now)) e (p .fits) in
+    (q, (good-text (a .c .width) (ruleAt (a .c .last)) (colOf (a .c) (a .ranges .now) (a .letters .now)) e (p .fine), omega (arith, q, p .low)))
 
 returns-3 : tie.Need-returns-3
 returns-3 c =
     let a = c .before .before .before .before .before .before .before .args in
     let seen = take (a .k) (slotsOf (a .flags .now) (a .values .now)) in
-    let e = col-letter (a .c) (a .letters .now) (c .before .if3 .taken) in
-    let w : a .c .width ≡ 1 = c .before .before .before .before .before .before .before .pre .1 .wide ∙ rw e in
-    found-wide (colOf (a .c) (a .letters .now)) seen (a .self .at) (a .c .width) 1 (a .line .now) _ w
-    (found-as _ _ _ _ _ _ (read-letter-is (colOf (a .c) (a .letters .now)) seen (a .self .at) (slice (a .self .at) (a .self .at + 1) (a .line .now)) _ e) (c .letter .ensures))
+    let e = col-text (a .c) (a .ranges .now) (a .letters .now) (c .before .if3 .taken) in
+    let w : a .c .width ≡ width (colOf (a .c) (a .ranges .now) (a .letters .now)) = rw e in
+    found-as _ (colOf (a .c) (a .ranges .now) (a .letters .now)) seen _ (a .self .at) (a .c .width) (a .line .now) w (read-text-is (colOf (a .c) (a .ranges .now) (a .letters .now)) seen (a .self .at) (slice (a .self .at) (a .self .at + a .c .width) (a .line .now)) (a .c .width) (ruleAt (a .c .last)) e) (c .text .ensures)
 
-time-requires : tie.Need-time-requires
-time-requires c κs =
+letter-requires : tie.Need-letter-requires
+letter-requires c κs =
     let a = c .before .before .before .before .before .before .before .args in
-    let p = c .before .before .before .before .before .before .before .pre .1 in
-    let w : a .c .width ≡ 12 = p .wide ∙ rw (col-clock (a .c) (a .letters .now) (c .if4 .taken)) in
-    omega (arith, p .fits)
-
-timed-requires : tie.Need-timed-requires
-timed-requires c κs = search needs
+    let p = c .before .before .before .before .before .before .before .pre .1 .1 in
+    let e = col-letter (a .c) (a .ranges .now) (a .letters .now) (c .if4 .taken) in
+    let q = subst (λ (x : Col). a .self .at + width x ≤ length (a .line .now)) e (p .fits) in
+    (q, (omega arith, omega (arith, q, p .low)))
 
 returns-4 : tie.Need-returns-4
 returns-4 c =
-    let a = c .before .before .before .before .before .before .before .before .before .before .args in
+    let a = c .before .before .before .before .before .before .before .before .args in
     let seen = take (a .k) (slotsOf (a .flags .now) (a .values .now)) in
-    let f = slice (a .self .at) (a .self .at + 12) (a .line .now) in
-    let e = col-clock (a .c) (a .letters .now) (c .before .before .before .if4 .taken) in
-    let w : a .c .width ≡ 12 = c .before .before .before .before .before .before .before .before .before .before .pre .1 .wide ∙ rw e in
-    found-wide (colOf (a .c) (a .letters .now)) seen (a .self .at) (a .c .width) 12 (a .line .now) _ w
-    (record {
-      answer = read-clock-is (colOf (a .c) (a .letters .now)) seen (a .self .at) f _ _ e (c .before .before .time .ensures .0) (c .timed .ensures (a .self .at) f);
-      next = c .before .before .time .ensures .1;
-    })
+    let e = col-letter (a .c) (a .ranges .now) (a .letters .now) (c .before .if4 .taken) in
+    let w : 1 ≡ width (colOf (a .c) (a .ranges .now) (a .letters .now)) = rw e in
+    found-as _ (colOf (a .c) (a .ranges .now) (a .letters .now)) seen _ (a .self .at) 1 (a .line .now) w (read-letter-is (colOf (a .c) (a .ranges .now) (a .letters .now)) seen (a .self .at) (slice (a .self .at) (a .self .at + 1) (a .line .now)) (slice (a .c .place) (a .c .place + a .c .last) (a .letters .now)) e) (c .letter .ensures)
 
-separator-requires : tie.Need-separator-requires
-separator-requires c κs =
-    let a = c .before .before .before .before .before .before .before .args in
-    let p = c .before .before .before .before .before .before .before .pre .1 in
-    let k : 5 ≤ a .c .kind = omega (arith, c .if4 .left, c .before .if3 .left, c .before .before .if2 .left) in
-    let w : a .c .width ≡ 1 = p .wide ∙ rw (col-separator (a .c) (a .letters .now) k) in
-    omega (arith, p .fits)
+group-requires : tie.Need-group-requires
+group-requires c κs =
+    let a = c .before .before .before .before .before .before .before .before .before .args in
+    let p = c .before .before .before .before .before .before .before .before .before .pre .1 .1 in
+    let e = col-group (a .c) (a .ranges .now) (a .letters .now) (c .before .if5 .taken) in
+    let q = subst (λ (x : Col). a .self .at + width x ≤ length (a .line .now)) e (p .fits) in
+    rw (c .group-at .ensures) (q, good-of-group (groupAt (a .c .last)) (colOf (a .c) (a .ranges .now) (a .letters .now)) e (p .fine))
+
+grouped-requires : tie.Need-grouped-requires
+grouped-requires c κs =
+    let p = c .before .before .before .before .before .before .before .before .before .before .before .pre .1 .1 in
+    omega (arith, p .fits, p .low)
 
 returns-5 : tie.Need-returns-5
 returns-5 c =
-    let a = c .before .before .before .before .before .before .before .before .args in
+    let a = c .before .before .before .before .before .before .before .before .before .before .before .before .args in
     let seen = take (a .k) (slotsOf (a .flags .now) (a .values .now)) in
-    let k : 5 ≤ a .c .kind = omega (arith, c .before .if4 .left, c .before .before .if3 .left, c .before .before .before .if2 .left) in
-    let e = col-separator (a .c) (a .letters .now) k in
-    let w : a .c .width ≡ 1 = c .before .before .before .before .before .before .before .before .pre .1 .wide ∙ rw e in
-    found-wide (colOf (a .c) (a .letters .now)) seen (a .self .at) (a .c .width) 1 (a .line .now) _ w
-    (found-as _ _ _ _ _ _ (read-gap-is (colOf (a .c) (a .letters .now)) seen (a .self .at) (slice (a .self .at) (a .self .at + 1) (a .line .now)) e) (c .separator .ensures))
+    let e = col-group (a .c) (a .ranges .now) (a .letters .now) (c .before .before .before .before .if5 .taken) in
+    let f = c .before .before .before .group-at .ensures in
+    let w : groupWidth (groupAt (a .c .last)) ≡ width (colOf (a .c) (a .ranges .now) (a .letters .now)) = rw e in
+    let b = slice (a .self .at) (a .self .at + groupWidth (groupAt (a .c .last))) (a .line .now) in
+    let n = rw f at (c .before .before .group .ensures) in
+    found-as _ (colOf (a .c) (a .ranges .now) (a .letters .now)) seen _ (a .self .at) (groupWidth (groupAt (a .c .last))) (a .line .now) w
+    (read-group-is (colOf (a .c) (a .ranges .now) (a .letters .now)) seen (a .self .at) b _ (groupAt (a .c .last)) _ e (n .0) (rw f at (c .grouped .ensures seen b)))
+    (record { answer = refl; next = n .1 })
+
+blanks-requires : tie.Need-blanks-requires
+blanks-requires c κs =
+    let a = c .before .before .before .before .before .before .before .before .args in
+    let p = c .before .before .before .before .before .before .before .before .pre .1 .1 in
+    let k : 5 ≤ a .c .kind = omega (arith, c .if5 .left, c .before .if4 .left, c .before .before .if3 .left, c .before .before .before .if2 .left, c .before .before .before .before .if1 .left) in
+    let e = col-blank (a .c) (a .ranges .now) (a .letters .now) k in
+    (subst (λ (x : Col). a .self .at + width x ≤ length (a .line .now)) e (p .fits), p .low)
+
+returns-6 : tie.Need-returns-6
+returns-6 c =
+    let a = c .before .before .before .before .before .before .before .before .before .args in
+    let seen = take (a .k) (slotsOf (a .flags .now) (a .values .now)) in
+    let k : 5 ≤ a .c .kind = omega (arith, c .before .if5 .left, c .before .before .if4 .left, c .before .before .before .if3 .left, c .before .before .before .before .if2 .left, c .before .before .before .before .before .if1 .left) in
+    let e = col-blank (a .c) (a .ranges .now) (a .letters .now) k in
+    let w : a .c .width ≡ width (colOf (a .c) (a .ranges .now) (a .letters .now)) = rw e in
+    found-as _ (colOf (a .c) (a .ranges .now) (a .letters .now)) seen _ (a .self .at) (a .c .width) (a .line .now) w (read-gap-is (colOf (a .c) (a .ranges .now) (a .letters .now)) seen (a .self .at) (slice (a .self .at) (a .self .at + a .c .width) (a .line .now)) (a .c .width) e) (c .blanks .ensures)
 
 pub cell-spec : {M : Type 1} → statement M
 cell-spec =
     tie.close
     (tie.spec
-    number-requires
+    integer-requires
+    judged-requires
     returns
-    text-requires
+    decimal-requires
+    judged-requires-2
     returns-2
-    add-letter
-    letter-requires
+    text-requires
     returns-3
-    time-requires
-    timed-requires
+    (λ c. search needs)
+    letter-requires
     returns-4
-    separator-requires
-    returns-5)
+    (λ c κs. search needs)
+    group-requires
+    grouped-requires
+    returns-5
+    blanks-requires
+    returns-6)

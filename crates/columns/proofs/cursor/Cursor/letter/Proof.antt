@@ -1,19 +1,10 @@
 use borrow.Author.Needs.{needs}
-use lib.Seq.{slice}
-use mathlib.Core.List.{[]}
 use mathlib.Core.Path.{refl, sym, _∙_}
-use Rattle.columns.proofs.cursor.Cursor.letter.Statement.{statement}
+use mathlib.Core.List.{[]}
+use lib.Seq.{slice}
 use Rattle.columns.proofs.laws.Cursor.{letter-known, letter-other}
+use Rattle.columns.proofs.cursor.Cursor.letter.Statement.{statement}
 use Rattle.columns.proofs.cursor.Cursor.letter.Tie as tie
-
-add-t8 : tie.Need-add-t8
-add-t8 c = search needs
-
-shared-slice-read-has : tie.Need-shared-slice-read-has
-shared-slice-read-has c = search needs
-
-has-requires : tie.Need-has-requires
-has-requires c κs = search needs
 
 returns : tie.Need-returns
 returns c =
@@ -26,4 +17,5 @@ returns-2 c =
     record { answer = letter-other [] (a .line .now) (a .self .at) (slice (a .from) (a .to) (a .letters .now)) (sym (c .before .has .ensures) ∙ c .if1 .left); next = refl }
 
 pub letter-spec : {M : Type 1} → statement M
-letter-spec = tie.close (tie.spec add-t8 shared-slice-read-has has-requires returns returns-2)
+letter-spec =
+    tie.close (tie.spec (λ c. search needs) (λ c. search needs) (λ c κs. search needs) returns (λ c. search needs) returns-2)

@@ -11,27 +11,6 @@ Inv-loop line from end places value₀ i₀ value i = (i ≤ places) × (value <
 abbrev μ-loop : tie.MeasureT-loop
 μ-loop line from end places value₀ i₀ value i = places - i
 
-returns : tie.Need-returns Inv-loop μ-loop
-returns c = search needs
-
-sub-places : tie.Need-sub-places Inv-loop μ-loop
-sub-places c = search needs
-
-loop-holds : tie.Need-loop-holds Inv-loop μ-loop
-loop-holds c = search needs
-
-add-digit : tie.Need-add-digit Inv-loop μ-loop
-add-digit c = search needs
-
-shared-slice-read-digit : tie.Need-shared-slice-read-digit Inv-loop μ-loop
-shared-slice-read-digit c = search needs
-
-digit-requires : tie.Need-digit-requires Inv-loop μ-loop
-digit-requires c κs = search needs
-
-returns-2 : tie.Need-returns-2 Inv-loop μ-loop
-returns-2 c = search needs
-
 mul-value : tie.Need-mul-value Inv-loop μ-loop
 mul-value c =
     let l = c .before .before .before .before .loop in
@@ -41,12 +20,6 @@ add-value : tie.Need-add-value Inv-loop μ-loop
 add-value c =
     let l = c .before .before .before .before .loop in
     omega (arith, eight-places (l .value) (l .i) (l .inv .1) (search needs))
-
-add-i : tie.Need-add-i Inv-loop μ-loop
-add-i c = search needs
-
-loop-less : tie.Need-loop-less Inv-loop μ-loop
-loop-less c = search needs
 
 loop-again : tie.Need-loop-again Inv-loop μ-loop
 loop-again c =
@@ -64,16 +37,16 @@ read-digits-spec =
     (tie.spec
     Inv-loop
     μ-loop
-    returns
-    sub-places
-    loop-holds
-    add-digit
-    shared-slice-read-digit
-    digit-requires
-    returns-2
+    (λ c. search needs)
+    (λ c. search needs)
+    (λ c. search needs)
+    (λ c. search needs)
+    (λ c. search needs)
+    (λ c κs. search needs)
+    (λ c. search needs)
     mul-value
     add-value
-    add-i
-    loop-less
+    (λ c. search needs)
+    (λ c. search needs)
     loop-again
     returns-3)

@@ -1,0 +1,295 @@
+-- Laws of a row's list of columns: what is read or written is whole and small, and does not begin with a blank.
+use mathlib.Core.Path.{_≡_, refl, sym, ap, _∙_}
+use mathlib.Core.Bool.{Bool, true, false, _&&_}
+use mathlib.Core.List.{List, [], _∷_, _++_}
+use Prim.Native.Nat.{ℕ, zero, suc, _+_, _-_, _^_, _≤_, _<_}
+use native.Mathlib.Omega.{arith}
+use native.Mathlib.Numerals.{add-one}
+use lib.IntN.{ℤ, pos, negsuc, natAbs}
+use lib.ListN.{length, take, drop, getD, length-drop, drop-of-length-le, take-append-drop}
+use lib.Seq.{length-take-le, drop-cons, drop-drop}
+use lib.Dec.{T, leb, ltb, eqb, leb→le}
+use borrow.Author.Tests.{ltb-true, ltb-false, le-ltb, eq-eqb, ne-eqb}
+use Rattle.columns.specs.Answer.{pick, ok, refusal, requiredBlank, badForm, outOfRange, tooWide, tooShort}
+use Rattle.columns.specs.declared.number.Form.{Form}
+use Rattle.columns.specs.declared.group.Group.{Group}
+use Rattle.columns.specs.Number.{goodForm, holds, holdsInt, holdsDec, fieldBytes}
+use Rattle.columns.specs.Column.{Slot, missing, given, Rec, joined, allowed, Rule, anyText, noBrackets, notBlankFirst, Col, numeric, text, letter, group, blank, width, slots, texts, goodGroup, goodCol, good, widths, allSlots, allTexts, bracketsIn}
+use Rattle.columns.specs.Group.{groupHolds, groupRange, groupBytes, putGroup}
+use Rattle.columns.specs.Reading.{judgeText, asText, readCell, readColumns}
+use Rattle.columns.specs.Writing.{putNumber, writeCell, writeColumns, writeLine}
+use Rattle.columns.specs.Table.{flagsOf, valuesOf, flagOf, valueOf, columnIn, colOf, columnsOf, slotsBy}
+use Rattle.columns.specs.declared.column.Column.{Column}
+use Rattle.columns.specs.Row.{allSame, alike, whole, writeWhole, SmallSlot, SmallSlots, isFilledFirst, mayNotBlank, startsFilled, rowSize, fits, Fits}
+use Rattle.columns.proofs.laws.Tests.{T-and, both-true}
+use Rattle.columns.proofs.laws.Answers.{split, chained, passed, held}
+use Rattle.columns.proofs.laws.GroupBack.{three-of, fine, part-form}
+use Rattle.columns.proofs.laws.Form.{good-int, good-dec}
+use Rattle.columns.proofs.laws.Columns.{text-read}
+use Rattle.columns.proofs.laws.Written.{power-le}
+use Rattle.columns.proofs.laws.Bounds.{columnOf, pick-bound, write-bound}
+use Rattle.columns.proofs.laws.Table.{sizes, columns-more, columns-none}
+use Rattle.columns.specs.declared.number.Form.the-variants as N
+
+-- ---- the computed test, as its parts
+
+pub fits-of : (cs : List Col) → T (fits cs) → Fits cs
+unfolding fits
+fits-of cs t =
+    let a = T-and (good cs) _ t in
+    let b = T-and (bracketsIn cs 0 0 0) _ (a .1) in
+    let c = T-and (startsFilled cs) _ (b .1) in
+    let d = T-and (leb (widths cs) 256) _ (c .1) in
+    let e = T-and (leb (allSlots cs) 40) _ (d .1) in
+    let f = T-and (leb (allTexts cs) 160) (leb (rowSize cs) 512) (e .1) in
+    record {
+      fine = a .0;
+      plain = b .0;
+      filled = c .0;
+      wide = leb→le (widths cs) 256 (d .0);
+      numbers = leb→le (allSlots cs) 40 (e .0);
+      chars = leb→le (allTexts cs) 160 (f .0);
+      bytes = leb→le (rowSize cs) 512 (f .1);
+    }
+
+-- ---- what is written is whole, and its numbers fit 64 bits
+
+record Kept (ns : List Slot) : Type 0 where
+  alike-flags : alike (flagsOf ns) ≡ true
+  small : SmallSlots ns
+
+form-small : (m : Form) (v : ℤ) → T (goodForm m) → holds m v ≡ true → SmallSlot (given v)
+unfolding holds holdsInt holdsDec
+form-small (N.Integer w) (pos n) g e = omega (arith, ltb-true n (10 ^ w) e, power-le w (good-int w g .1))
+form-small (N.Integer w) (negsuc n) g e = omega (arith, ltb-true (n + 1) (10 ^ (w - 1)) e, power-le (w - 1) (omega (arith, good-int w g .1)))
+form-small (N.Decimal w d) (pos n) g e = omega (arith, ltb-true n (10 ^ (w - 1)) e, power-le (w - 1) (omega (arith, good-dec w d g .1)))
+form-small (N.Decimal w d) (negsuc n) g e = omega (arith, ltb-true (n + 1) (10 ^ (w - 2)) e, power-le (w - 2) (omega (arith, good-dec w d g .1)))
+
+none-kept : (ns : List Slot) → length ns ≡ 0 → Kept ns
+unfolding flagsOf alike
+none-kept [] n = record { alike-flags = refl; small = tt }
+none-kept (x ∷ ns) n = absurd (omega arith)
+
+one-kept : (ns : List Slot) → length ns ≡ 1 → SmallSlot (getD ns 0 missing) → Kept ns
+unfolding flagsOf alike allSame
+one-kept [] n s = absurd (omega arith)
+one-kept (x ∷ []) n s = record { alike-flags = refl; small = (s, tt) }
+one-kept (x ∷ y ∷ ns) n s = absurd (omega arith)
+
+number-small : (m : Form) (q : Bool) (can : ℤ → Bool) (at : ℕ) (ys : List ℕ) (x : Slot) → T (goodForm m) → putNumber m q can at x ≡ ok ys → SmallSlot x
+number-small m q can at ys missing o e = tt
+number-small m q can at ys (given v) o e = form-small m v o (held (holds m v) tooWide (at + 1) (pick (can v) (ok (fieldBytes m v)) (refusal outOfRange (at + 1))) ys e .0)
+
+group-kept : (g : Group) (seen : List Slot) (at : ℕ) (x y z : Slot) (ys : List ℕ) → T (goodGroup g) → putGroup g seen at x y z ≡ ok ys → Kept (x ∷ y ∷ z ∷ [])
+unfolding flagsOf alike allSame
+group-kept g seen at missing missing missing ys o e = record { alike-flags = refl; small = (tt, (tt, (tt, tt))) }
+group-kept g seen at (given h) (given m) (given s) ys o e =
+    let f = fine g o in
+    let p = held (groupHolds g h m s) tooWide (at + 1) (pick (groupRange g seen h m s) (ok (groupBytes g (natAbs h) (natAbs m) (natAbs s))) (refusal outOfRange (at + 1))) ys e in
+    let q = both-true (holds (g .first .form) h) _ (p .0) in
+    let r = both-true (holds (g .second .form) m) (holds (g .third .form) s) (q .1) in
+    record { alike-flags = refl; small = (form-small (g .first .form) h (part-form (g .first) (f .first)) (q .0), (form-small (g .second .form) m (part-form (g .second) (f .second)) (r .0), (form-small (g .third .form) s (part-form (g .third) (f .third)) (r .1), tt))) }
+group-kept g seen at missing missing (given s) ys o e = let z : _≡_ {A = ℕ} 0 1 = cc in let y : ⊥ = omega arith in absurd y
+group-kept g seen at missing (given m) z ys o e = let k : _≡_ {A = ℕ} 0 1 = cc in let y : ⊥ = omega arith in absurd y
+group-kept g seen at (given h) missing z ys o e = let k : _≡_ {A = ℕ} 0 1 = cc in let y : ⊥ = omega arith in absurd y
+group-kept g seen at (given h) (given m) missing ys o e = let k : _≡_ {A = ℕ} 0 1 = cc in let y : ⊥ = omega arith in absurd y
+
+cell-kept : (c : Col) (seen : List Slot) (at : ℕ) (ns : List Slot) (t ys : List ℕ) → T (goodCol c) → length ns ≡ slots c → writeCell c seen at ns t ≡ ok ys → Kept ns
+unfolding writeCell
+cell-kept (numeric m q g) seen at ns t ys o n e = one-kept ns n (number-small m q (allowed g seen) at ys (getD ns 0 missing) o e)
+cell-kept (text w x) seen at ns t ys o n e = none-kept ns n
+cell-kept (letter s) seen at ns t ys o n e = none-kept ns n
+cell-kept (group g) seen at ns t ys o n e = rw (three-of ns missing n) (group-kept g seen at (getD ns 0 missing) (getD ns 1 missing) (getD ns 2 missing) ys o e)
+cell-kept (blank w) seen at ns t ys o n e = none-kept ns n
+
+small-append : (a b : List Slot) → SmallSlots a → SmallSlots b → SmallSlots (a ++ b)
+small-append [] b p q = q
+small-append (x ∷ a) b p q = (p .0, small-append a b (p .1) q)
+
+flags-take : (k : ℕ) (ns : List Slot) → take k (flagsOf ns) ≡ flagsOf (take k ns)
+unfolding flagsOf
+flags-take zero ns = refl
+flags-take (suc k) [] = refl
+flags-take (suc k) (x ∷ ns) = rw (flags-take k ns)
+
+flags-drop : (k : ℕ) (ns : List Slot) → drop k (flagsOf ns) ≡ flagsOf (drop k ns)
+unfolding flagsOf
+flags-drop zero ns = refl
+flags-drop (suc k) [] = refl
+flags-drop (suc k) (x ∷ ns) = flags-drop k ns
+
+length-rest : (k r : ℕ) (ns : List Slot) → length ns ≡ k + r → length (drop k ns) ≡ r
+length-rest k r ns n = length-drop k ns ∙ omega arith
+
+pub record WholeRecord (cs : List Col) (ns : List Slot) : Type 0 where
+  pub whole-flags : whole cs (flagsOf ns) ≡ true
+  pub small : SmallSlots ns
+
+pub written-whole : (cs : List Col) (seen : List Slot) (at : ℕ) (ns : List Slot) (t ys : List ℕ) → T (good cs) → length ns ≡ allSlots cs → writeColumns cs seen at ns t ≡ ok ys → WholeRecord cs ns
+unfolding good allSlots writeColumns whole
+written-whole [] seen at [] t ys g n e = record { whole-flags = refl; small = tt }
+written-whole [] seen at (x ∷ ns) t ys g n e = absurd (omega arith)
+written-whole (c ∷ cs) seen at ns t ys g n e =
+    let gs = T-and (goodCol c) (good cs) g in
+    let s = split _++_ (writeCell c seen at (take (slots c) ns) (take (texts c) t)) (writeColumns cs (seen ++ take (slots c) ns) (at + width c) (drop (slots c) ns) (drop (texts c) t)) ys e in
+    let x = cell-kept c seen at (take (slots c) ns) (take (texts c) t) (s .a) (gs .0) (length-take-le (slots c) ns (omega arith)) (s .first) in
+    let y = written-whole cs (seen ++ take (slots c) ns) (at + width c) (drop (slots c) ns) (drop (texts c) t) (s .b) (gs .1) (length-rest (slots c) (allSlots cs) ns n) (s .second) in
+    record {
+      whole-flags = rw (flags-take (slots c) ns, x .alike-flags, flags-drop (slots c) ns) (y .whole-flags);
+      small = rw take-append-drop at (small-append (take (slots c) ns) (drop (slots c) ns) (x .small) (y .small));
+    }
+
+-- ---- a line that is read does not begin with a blank
+
+first-of : (w : ℕ) (line : List ℕ) → 1 ≤ w → getD (take w line) 0 0 ≡ getD line 0 0
+first-of zero line h = absurd (omega arith)
+first-of (suc w) [] h = refl
+first-of (suc w) (b ∷ line) h = refl
+
+text-filled : (x : Rule) (at : ℕ) (f : List ℕ) (r : Rec) → T (isFilledFirst x) → asText (judgeText x at f (ok f)) ≡ ok r → eqb (getD f 0 0) 32 ≡ false
+text-filled anyText at f r h e = absurd h
+text-filled noBrackets at f r h e = absurd h
+text-filled notBlankFirst at f r h e = passed (eqb (getD f 0 0) 32) requiredBlank (at + 1) (ok f) f (text-read notBlankFirst at f r e .1) .0
+
+cell-filled : (c : Col) (seen : List Slot) (at : ℕ) (line : List ℕ) (r : Rec) → T (goodCol c) → T (mayNotBlank c) → readCell c seen at (take (width c) line) ≡ ok r → eqb (getD line 0 0) 32 ≡ false
+unfolding readCell
+cell-filled (text w x) seen at line r g f e = rw (first-of w line (leb→le 1 w g)) at (text-filled x at (take w line) r f e)
+cell-filled (numeric m q g) seen at line r o f e = absurd f
+cell-filled (letter s) seen at line r g f e = absurd f
+cell-filled (group g) seen at line r o f e = absurd f
+cell-filled (blank w) seen at line r g f e = absurd f
+
+pub read-filled : (cs : List Col) (seen : List Slot) (at : ℕ) (line : List ℕ) (r : Rec) → T (good cs) → T (startsFilled cs) → readColumns cs seen at line ≡ ok r → eqb (getD line 0 0) 32 ≡ false
+unfolding good startsFilled readColumns
+read-filled [] seen at line r g f e = absurd f
+read-filled (c ∷ cs) seen at line r g f e =
+    let s = chained joined (readCell c seen at (take (width c) line)) (λ z. readColumns cs (seen ++ z .numbers) (at + width c) (drop (width c) line)) r e in
+    cell-filled c seen at line (s .a) (T-and (goodCol c) (good cs) g .0) f (s .first)
+
+-- ---- the loops that test it
+
+-- the flags before place i are f
+pub record Alike (fs : List ℕ) (f i : ℕ) : Type 0 where
+  pub inside : i ≤ length fs
+  pub same : alike fs ≡ allSame f (drop i fs)
+
+module _ (fs : List ℕ) where
+  pub alike-none : length fs ≡ 0 → true ≡ alike fs
+  unfolding alike
+  alike-none n = by-list fs n
+    where
+      by-list : (l : List ℕ) → length l ≡ 0 → true ≡ alike l
+      by-list [] m = refl
+      by-list (x ∷ l) m = absurd (omega arith)
+
+  pub alike-start : (length fs ≡ 0 → ⊥) → Alike fs (getD fs 0 0) 1
+  unfolding alike
+  alike-start n = by-list fs n
+    where
+      by-list : (l : List ℕ) → (length l ≡ 0 → ⊥) → Alike l (getD l 0 0) 1
+      by-list [] m = absurd (m refl)
+      by-list (x ∷ l) m = record { inside = omega arith; same = refl }
+
+  module _ (f i : ℕ) (a : Alike fs f i) where
+    pub alike-end : length fs ≤ i → true ≡ alike fs
+    unfolding allSame
+    alike-end h = sym (a .same ∙ rw (drop-of-length-le fs {i = i} h))
+
+    pub alike-other : i < length fs → (getD fs i 0 ≡ f → ⊥) → false ≡ alike fs
+    unfolding allSame
+    alike-other h n = sym (a .same ∙ rw (drop-cons fs i 0 h, ne-eqb (getD fs i 0) f n))
+
+    pub alike-more : i < length fs → getD fs i 0 ≡ f → Alike fs f (i + 1)
+    unfolding allSame
+    alike-more h e = record { inside = omega arith; same = a .same ∙ rw (drop-cons fs i 0 h, eq-eqb (getD fs i 0) f e, add-one) }
+
+-- the columns that are left, and the numbers before them
+pub record Testing (cs : List Col) (fs : List ℕ) (rest : List Col) (k : ℕ) : Type 0 where
+  pub inside : k + allSlots rest ≤ length fs
+  pub same : whole cs fs ≡ whole rest (drop k fs)
+
+pub testing-start : (fs : List ℕ) (s : List ℕ) (r : List ℤ) (ls : List ℕ) (i n : ℕ) → allSlots (columnsOf s r ls i n) ≤ length fs → Testing (columnsOf s r ls i n) fs (columnsOf s r ls i (i + n - i)) 0
+testing-start fs s r ls i n h = let z : i + n - i ≡ n = omega arith in rw z (record { inside = omega arith; same = refl })
+
+module _ (cs : List Col) (fs : List ℕ) (s : List ℕ) (r : List ℤ) (ls : List ℕ) (i n k : ℕ) (t : Testing cs fs (columnsOf s r ls i (n - i)) k) where
+  pub testing-end : n ≤ i → true ≡ whole cs fs
+  unfolding whole
+  testing-end h = sym (t .same ∙ rw (columns-none s r ls i n h))
+
+  module _ (h : i < n) (row : Column) (e : row ≡ columnIn (getD s i 0)) (y : ℕ) (b : y ≡ slotsBy row) where
+    abbrev rest : List Col
+    rest = columnsOf s r ls (i + 1) (n - (i + 1))
+
+    slots-here : y ≡ slots (colOf (columnIn (getD s i 0)) r ls)
+    slots-here = b ∙ ap slotsBy e ∙ sym (sizes (columnIn (getD s i 0)) r ls .numbers)
+
+    inside-here : k + (y + allSlots rest) ≤ length fs
+    unfolding allSlots
+    inside-here = rw slots-here (rw (columns-more s r ls i n h) at (t .inside))
+
+    pub testing-fits : k + y ≤ length fs
+    testing-fits = omega (arith, inside-here)
+
+    same-here : whole cs fs ≡ alike (take y (drop k fs)) && whole rest (drop (k + y) fs)
+    unfolding whole
+    same-here = t .same ∙ rw (columns-more s r ls i n h, ← slots-here, drop-drop y k fs)
+
+    module _ (told : Bool) (g : told ≡ alike (take (k + y - k) (drop k fs))) where
+      told-here : told ≡ alike (take y (drop k fs))
+      told-here = let z : k + y - k ≡ y = omega arith in rw z at g
+
+      pub testing-other : told ≡ false → false ≡ whole cs fs
+      testing-other q = let z : alike (take y (drop k fs)) ≡ false = sym told-here ∙ q in sym (same-here ∙ rw z)
+
+      pub testing-more : told ≡ true → Testing cs fs rest (k + y)
+      testing-more q =
+          let z : alike (take y (drop k fs)) ≡ true = sym told-here ∙ q in
+          record { inside = omega (arith, inside-here); same = same-here ∙ rw z }
+
+-- ---- a whole record's line, as the code comes to it
+
+module _ (cs : List Col) (fs : List ℕ) (ns : List Slot) (t : List ℕ) (told : Bool) (g : told ≡ whole cs fs) where
+  pub whole-line : (room : ℕ) → told ≡ true → writeLine cs ns t room ≡ writeWhole cs fs ns t room
+  whole-line room q = let z : whole cs fs ≡ true = sym g ∙ q in sym (rw z)
+
+  pub part-line : (room : ℕ) → told ≡ false → writeWhole cs fs ns t room ≡ refusal badForm 0
+  part-line room q = let z : whole cs fs ≡ false = sym g ∙ q in rw z
+
+-- ---- a line of its own
+
+module _ (cs : List Col) (ns : List Slot) (t : List ℕ) (room : ℕ) where
+  pub line-there : widths cs ≤ room → writeLine cs ns t room ≡ writeColumns cs [] 0 ns t
+  unfolding writeLine
+  line-there h = rw (le-ltb room (widths cs) h)
+
+  pub line-passed : (ys : List ℕ) → writeLine cs ns t room ≡ ok ys → (widths cs ≤ room) × (writeColumns cs [] 0 ns t ≡ ok ys)
+  unfolding writeLine
+  line-passed ys e =
+      let p = passed (ltb room (widths cs)) tooShort 0 (writeColumns cs [] 0 ns t) ys e in
+      (ltb-false room (widths cs) (p .0), p .1)
+
+  pub line-bound : T (good cs) → columnOf (writeLine cs ns t room) ≤ widths cs
+  unfolding writeLine
+  line-bound g = pick-bound (widths cs) (ltb room (widths cs)) _ _ (omega arith) (omega (arith, write-bound cs [] 0 ns t g))
+
+column-wide : (c : Col) → T (goodCol c) → T (mayNotBlank c) → 1 ≤ width c
+column-wide (text w x) g f = leb→le 1 w g
+column-wide (numeric m q r) g f = absurd f
+column-wide (letter s) g f = absurd f
+column-wide (group g) o f = absurd f
+column-wide (blank w) g f = absurd f
+
+pub filled-wide : (cs : List Col) → T (good cs) → T (startsFilled cs) → 1 ≤ widths cs
+unfolding good startsFilled widths
+filled-wide [] g f = absurd f
+filled-wide (c ∷ cs) g f = omega (arith, column-wide c (T-and (goodCol c) (good cs) g .0) f)
+
+-- ---- a record's flags and values, one number at a time
+
+pub flags-cons : (x : Slot) (ns : List Slot) → flagsOf (x ∷ ns) ≡ flagOf x ∷ flagsOf ns
+unfolding flagsOf
+flags-cons x ns = refl
+
+pub values-cons : (x : Slot) (ns : List Slot) → valuesOf (x ∷ ns) ≡ valueOf x ∷ valuesOf ns
+unfolding valuesOf
+values-cons x ns = refl

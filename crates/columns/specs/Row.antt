@@ -1,0 +1,94 @@
+-- What a row of a file format asks of its list of columns: whole records, a first byte that is no blank, sizes that fit.
+use Prim.Native.Nat.{ℕ, _+_, _*_, _≤_, _<_}
+use mathlib.Core.List.{List, [], _∷_}
+use mathlib.Core.Bool.{Bool, true, false, _&&_}
+use lib.IntN.{natAbs}
+use lib.ListN.{take, drop}
+use lib.Dec.{T, eqb, leb}
+use Rattle.columns.specs.Answer.{pick, Answer, refusal, badForm}
+use Rattle.columns.specs.Column.{Slot, missing, given, Rule, anyText, noBrackets, notBlankFirst, Col, numeric, text, letter, group, blank, slots, good, widths, allSlots, allTexts, bracketsIn}
+use Rattle.columns.specs.Writing.{writeLine}
+
+-- ---- whole records: the numbers of one column, as a time's three, are there together or missing together
+
+unfoldable pub allSame : ℕ → List ℕ → Bool
+allSame f [] = true
+allSame f (x ∷ fs) = pick (eqb x f) (allSame f fs) false
+
+unfoldable pub alike : List ℕ → Bool
+alike [] = true
+alike (f ∷ fs) = allSame f fs
+
+-- the flags of each column's numbers are alike
+unfoldable pub whole : List Col → List ℕ → Bool
+whole [] fs = true
+whole (c ∷ cs) fs = alike (take (slots c) fs) && whole cs (drop (slots c) fs)
+
+-- a line of its own from a record that is whole, else 6 at column 0
+abbrev pub writeWhole : List Col → List ℕ → List Slot → List ℕ → ℕ → Answer (List ℕ)
+writeWhole cs fs ns t room = pick (whole cs fs) (writeLine cs ns t room) (refusal badForm 0)
+
+-- ---- numbers that 64 bits hold, with either sign
+
+abbrev pub SmallSlot : Slot → Type 0
+SmallSlot missing = Unit {0}
+SmallSlot (given v) = natAbs v < 9223372036854775808
+
+abbrev pub SmallSlots : List Slot → Type 0
+SmallSlots [] = Unit {0}
+SmallSlots (x ∷ ns) = SmallSlot x × SmallSlots ns
+
+-- ---- a first column that may not begin with a blank
+
+abbrev pub isFilledFirst : Rule → Bool
+isFilledFirst anyText = false
+isFilledFirst noBrackets = false
+isFilledFirst notBlankFirst = true
+
+abbrev pub mayNotBlank : Col → Bool
+mayNotBlank (numeric m q g) = false
+mayNotBlank (text w x) = isFilledFirst x
+mayNotBlank (letter s) = false
+mayNotBlank (group g) = false
+mayNotBlank (blank w) = false
+
+unfoldable pub startsFilled : List Col → Bool
+startsFilled [] = false
+startsFilled (c ∷ cs) = mayNotBlank c
+
+-- ---- sizes
+
+-- the bytes of a record: its kind, a flag and eight bytes for each number, and its text
+abbrev pub rowSize : List Col → ℕ
+rowSize cs = 1 + allSlots cs + 8 * allSlots cs + allTexts cs
+
+-- the room of the code's arrays: for a line, for a record's numbers, its text and its bytes
+abbrev pub lineRoom : ℕ
+lineRoom = 256
+
+abbrev pub numberRoom : ℕ
+numberRoom = 40
+
+abbrev pub textRoom : ℕ
+textRoom = 160
+
+abbrev pub recordRoom : ℕ
+recordRoom = 512
+
+-- a list of columns that can be a row format: well-formed, no bracket barred, and within the sizes of the code's arrays
+unfoldable pub fits : List Col → Bool
+fits cs =
+    good cs
+    && (bracketsIn cs 0 0 0
+    && (startsFilled cs
+    && (leb (widths cs) lineRoom && (leb (allSlots cs) numberRoom && (leb (allTexts cs) textRoom && leb (rowSize cs) recordRoom)))))
+
+-- what that test says
+pub record Fits (cs : List Col) : Type 0 where
+  pub fine : T (good cs)
+  pub plain : T (bracketsIn cs 0 0 0)
+  pub filled : T (startsFilled cs)
+  pub wide : widths cs ≤ lineRoom
+  pub numbers : allSlots cs ≤ numberRoom
+  pub chars : allTexts cs ≤ textRoom
+  pub bytes : rowSize cs ≤ recordRoom

@@ -1,0 +1,15 @@
+use borrow.Author.Needs.{needs}
+use mathlib.Core.Path.{refl}
+use Rattle.formats.specs.Format.{formatOf, phaseFormat}
+use Rattle.formats.proofs.laws.Format.{header-put}
+use Rattle.formats.specs.Words.{bytesOf}
+use Rattle.formats.specs.Header.{phaseHeader, spacedFrom}
+use Rattle.formats.proofs.header.put_header.Statement.{statement}
+use Rattle.formats.proofs.header.put_header.Tie as tie
+
+returns : tie.Need-returns
+unfolding formatOf phaseFormat phaseHeader spacedFrom bytesOf
+returns c = header-put (c .before .before .before .args .kind) 199 (c .before .before .before .args .out .now) _ refl (c .copy .ensures)
+
+pub put-header-spec : {M : Type 1} → statement M
+put-header-spec = tie.close (tie.spec (λ c. search needs) (λ c κs. search needs) returns)

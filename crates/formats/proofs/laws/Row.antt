@@ -1,0 +1,180 @@
+-- Laws of a row's line, over its list of columns: each answer as the code comes to it; every record that is written reads back
+-- the same, and every record that was read is written.
+use mathlib.Core.Path.{_≡_, refl, sym, ap, _∙_}
+use mathlib.Core.Bool.{true, false}
+use mathlib.Core.Logic.{inl, inr}
+use mathlib.Core.List.{List, [], _∷_}
+use Prim.Native.Nat.{ℕ, zero, suc, _+_, _-_, _≤_, _<_}
+use native.Mathlib.Omega.{arith}
+use lib.ListN.{length, take, drop, getD, replicate, length-append, length-drop, length-replicate, getD-replicate}
+use lib.IntN.{ℤ, pos}
+use lib.Dec.{ltb, eqb}
+use borrow.Author.Tests.{le-ltb, lt-ltb, ltb-false, le-leb, lt-leb}
+use Rattle.columns.specs.Answer.{Answer, ok, refusal, barredByte}
+use Rattle.columns.specs.Bytes.{inside}
+use Rattle.columns.specs.Column.{Slot, Rec, Col, widths, allSlots, allTexts}
+use Rattle.columns.specs.Reading.{readColumns}
+use Rattle.columns.specs.Writing.{writeLine}
+use Rattle.columns.specs.Table.{flagsOf, outcomeOf}
+use Rattle.columns.specs.Row.{whole, SmallSlots, Fits}
+use Rattle.columns.proofs.laws.Answers.{passed, over-whole}
+use Rattle.columns.proofs.laws.Bounds.{columnOf, pick-bound, barred-bound, read-bound}
+use Rattle.columns.proofs.laws.Clear.{Clear, clear-blanks, clear-drop, clear-none, barred-clear}
+use Rattle.columns.proofs.laws.Columns.{Line, columns-back}
+use Rattle.columns.proofs.laws.Accepted.{columns-accepted}
+use Rattle.columns.proofs.laws.Reader.{Whole}
+use Rattle.columns.proofs.laws.Row.{written-whole, read-filled, filled-wide, line-there, line-passed}
+use Rattle.columns.proofs.laws.Stretch.{clean-line, line-clean, barred-after}
+use Rattle.columns.specs.Answer.{unless, differs, wrongLength}
+use Rattle.formats.specs.Row.{lowestBarredByte, blankFilled, readRow, writeRow, rowOf}
+use Rattle.columns.proofs.laws.Answers.{differs-not, differs-is, differs-same}
+use Rattle.formats.proofs.laws.Lines.{lt-or-le}
+use Rattle.columns.specs.declared.Outcome.the-variants as O
+
+-- ---- each answer, as the code comes to it
+
+module _ (cs : List Col) (l : List ℕ) where
+  pub row-long : widths cs < length l → readRow cs l ≡ refusal wrongLength 0
+  unfolding readRow
+  row-long h = rw (lt-ltb (widths cs) (length l) h)
+
+  module _ (h : length l ≤ widths cs) where
+    pub row-barred : (k : ℕ) → k ≡ lowestBarredByte l → (k ≡ 0 → ⊥) → readRow cs l ≡ refusal barredByte k
+    unfolding readRow
+    row-barred k e n = rw (le-ltb (widths cs) (length l) h, differs-is (lowestBarredByte l) 0 (λ q. n (e ∙ q)), e)
+
+    pub row-columns : lowestBarredByte l ≡ 0 → readRow cs l ≡ readColumns cs [] 0 (blankFilled (widths cs) l)
+    unfolding readRow
+    row-columns e = rw (le-ltb (widths cs) (length l) h, differs-not (lowestBarredByte l) 0 e)
+
+-- a line over the blanks of an array that is longer than the full width
+blanks-take : (w n : ℕ) → w ≤ n → _≡_ {A = List ℕ} (take w (replicate n 32)) (replicate w 32)
+blanks-take zero n h = refl
+blanks-take (suc w) zero h = absurd (omega arith)
+blanks-take (suc w) (suc n) h = ap (λ (s : List ℕ). 32 ∷ s) (blanks-take w n (omega arith))
+
+over-take : (l : List ℕ) (w n : ℕ) → length l ≤ w → w ≤ n → take w (blankFilled n l) ≡ blankFilled w l
+over-take [] w n h k = blanks-take w n k
+over-take (b ∷ l) zero n h k = absurd (omega arith)
+over-take (b ∷ l) (suc w) zero h k = absurd (omega arith)
+over-take (b ∷ l) (suc w) (suc n) h k = ap (λ (s : List ℕ). b ∷ s) (over-take l w n (omega arith) (omega arith))
+
+pub filled-part : (l : List ℕ) (w v n : ℕ) → v ≡ w → length l ≤ w → w ≤ n → take (v - 0) (drop 0 (blankFilled n l)) ≡ blankFilled w l
+filled-part l w v n e h k = let z : v - 0 ≡ w = omega arith in rw z (over-take l w n h k)
+
+pub filled-size : (w : ℕ) (l : List ℕ) → length l ≤ w → length (blankFilled w l) ≡ w
+filled-size w l h = length-append l (drop (length l) (replicate w 32)) ∙ omega (arith, length-drop {A = ℕ} (length l) (replicate w 32), length-replicate {A = ℕ} w 32)
+
+-- what was read, in the arrays
+pub row-is : (a : Answer Rec) {f : List ℕ} {v : List ℤ} {t : List ℕ} → Whole a (replicate 40 0) f (replicate 40 (pos 0)) v (replicate 160 0) t → record { read = O.Done; flags = f; values = v; text = t } ≡ rowOf a
+row-is a w = rw (w .is, w .flags, w .values, w .chars)
+
+pub no-row-is : (a : Answer Rec) (n k : ℕ) → a ≡ refusal n k → rowOf (refusal n k) ≡ rowOf a
+no-row-is a n k e = rw e
+
+pub row-outcome : (a : Answer Rec) → rowOf a .read ≡ outcomeOf a
+row-outcome (ok m) = refl
+row-outcome (refusal n k) = refl
+
+-- ---- the blanks that a shorter line is filled with are no barred bytes
+
+outside : (i : ℕ) → 1 ≤ i → inside 0 0 i ≡ false
+outside i h = let z : 0 ≤ i = omega arith in let g : 0 < i = omega arith in rw (le-leb 0 i z, lt-leb i 0 g)
+
+filled-clear : (w : ℕ) (l : List ℕ) → lowestBarredByte l ≡ 0 → lowestBarredByte (blankFilled w l) ≡ 0
+filled-clear w l e =
+    barred-after 0 0 1 l (drop (length l) (replicate w 32)) (omega arith) e
+    ∙ clear-none 0 0 false (1 + length l) (λ i p q. outside i (omega arith)) (clear-drop (length l) (replicate w 32) (clear-blanks false w))
+
+-- ---- what a line that was read has passed
+
+pub record PassedRow (cs : List Col) (l : List ℕ) (m : Rec) : Type 0 where
+  pub short : length l ≤ widths cs
+  pub clear : lowestBarredByte l ≡ 0
+  pub read : readColumns cs [] 0 (blankFilled (widths cs) l) ≡ ok m
+
+pub row-passed : (cs : List Col) (l : List ℕ) (m : Rec) → readRow cs l ≡ ok m → PassedRow cs l m
+unfolding readRow
+row-passed cs l m e =
+    let p = passed (ltb (widths cs) (length l)) wrongLength 0 (unless (differs (lowestBarredByte l) 0) barredByte (lowestBarredByte l) (readColumns cs [] 0 (blankFilled (widths cs) l))) m e in
+    let q = passed (differs (lowestBarredByte l) 0) barredByte (lowestBarredByte l) (readColumns cs [] 0 (blankFilled (widths cs) l)) m (p .1) in
+    record { short = ltb-false (widths cs) (length l) (p .0); clear = differs-same (lowestBarredByte l) 0 (q .0); read = q .1 }
+
+module _ (cs : List Col) (f : Fits cs) where
+  -- ---- what is written reads back
+
+  module _ (ns : List Slot) (t ys : List ℕ) (room : ℕ) (a : length ns ≡ allSlots cs) (b : length t ≡ allTexts cs) (e : writeLine cs ns t room ≡ ok ys) where
+    row-line : Line cs [] 0 ns t ys
+    row-line = columns-back cs [] 0 ns t ys (f .fine) a b (line-passed cs ns t room ys e .1)
+
+    pub row-size : length ys ≡ widths cs
+    row-size = row-line .size
+
+    row-clear : lowestBarredByte ys ≡ 0
+    row-clear = clean-line 0 0 cs 0 ys (f .plain) (row-line .size) (row-line .clean)
+
+    pub row-back : readRow cs ys ≡ ok (record { numbers = ns; chars = t })
+    row-back =
+        row-columns cs ys (omega (arith, row-size)) row-clear
+        ∙ ap (readColumns cs [] 0) (over-whole ys (replicate (widths cs) 32) (row-size ∙ sym (length-replicate (widths cs) 32)))
+        ∙ row-line .back
+
+  -- ---- what was read is written, and is whole
+
+  pub record AcceptsRow (m : Rec) : Type 0 where
+    pub bytes : List ℕ
+    pub is : writeRow cs m (widths cs) ≡ ok bytes
+    pub numbers : length (m .numbers) ≡ allSlots cs
+    pub chars : length (m .chars) ≡ allTexts cs
+    pub whole-flags : whole cs (flagsOf (m .numbers)) ≡ true
+    pub small : SmallSlots (m .numbers)
+
+  module _ (l : List ℕ) (m : Rec) (e : readRow cs l ≡ ok m) where
+    pub row-accepted : AcceptsRow m
+    row-accepted =
+        let p = row-passed cs l m e in
+        let n : length (blankFilled (widths cs) l) ≡ widths cs = filled-size (widths cs) l (p .short) in
+        let x = columns-accepted cs [] 0 (blankFilled (widths cs) l) m (f .fine) (omega arith) (line-clean 0 0 cs 0 (blankFilled (widths cs) l) (f .plain) n (filled-clear (widths cs) l (p .clear))) (p .read) in
+        let w = written-whole cs [] 0 (m .numbers) (m .chars) (x .bytes) (f .fine) (x .numbers) (x .written) in
+        record {
+          bytes = x .bytes;
+          is = line-there cs (m .numbers) (m .chars) (widths cs) (omega arith) ∙ x .written;
+          numbers = x .numbers;
+          chars = x .chars;
+          whole-flags = w .whole-flags;
+          small = w .small;
+        }
+
+    -- its bytes are text, and the first is not blank
+    pub row-text : Clear false l
+    row-text = barred-clear false 0 l (row-passed cs l m e .clear)
+
+    -- nor is it empty, as blanks would fill it
+    pub row-nonempty : 1 ≤ length l
+    row-nonempty = by-line l (row-passed cs l m e)
+      where
+        by-line : (s : List ℕ) → PassedRow cs s m → 1 ≤ length s
+        by-line [] p =
+            let b : eqb (getD (replicate (widths cs) 32) 0 0) 32 ≡ false = read-filled cs [] 0 (blankFilled (widths cs) []) m (f .fine) (f .filled) (p .read) in
+            let g : getD {A = ℕ} (replicate (widths cs) 32) 0 0 ≡ 32 = getD-replicate (widths cs) 0 32 0 (filled-wide cs (f .fine) (f .filled)) in
+            let z : eqb 32 32 ≡ false = rw g at b in
+            let y : _≡_ {A = ℕ} 0 1 = cc in absurd (omega arith)
+        by-line (x ∷ s) p = omega arith
+
+    pub row-filled : eqb (getD l 0 0) 32 ≡ false
+    row-filled = by-line l (row-passed cs l m e)
+      where
+        by-line : (s : List ℕ) → PassedRow cs s m → eqb (getD s 0 0) 32 ≡ false
+        by-line [] p = refl
+        by-line (b ∷ s) p = read-filled cs [] 0 (blankFilled (widths cs) (b ∷ s)) m (f .fine) (f .filled) (p .read)
+
+  -- ---- the column of a refusal
+
+  pub row-bound : (l : List ℕ) → columnOf (readRow cs l) ≤ widths cs
+  unfolding readRow
+  row-bound l = elim (lt-or-le (widths cs) (length l)) [
+    | inl p ↦ rw (lt-ltb (widths cs) (length l) p) (omega arith)
+    | inr p ↦
+        rw (le-ltb (widths cs) (length l) p)
+        (pick-bound (widths cs) (differs (lowestBarredByte l) 0) (refusal barredByte (lowestBarredByte l)) (readColumns cs [] 0 (blankFilled (widths cs) l)) (omega (arith, p, barred-bound 0 0 0 l)) (omega (arith, read-bound cs [] 0 (blankFilled (widths cs) l) (f .fine))))
+  ]

@@ -1,0 +1,36 @@
+-- The ranges that columns name. Document 01, "The E line" and "The phase line"; degrees are scaled by 10,000.
+use lib.IntN.{pos, negsuc}
+use Rattle.columns.specs.Column.{Range, span}
+
+abbrev pub yearRange : Range
+yearRange = span (negsuc 998) (pos 6070)
+
+abbrev pub monthRange : Range
+monthRange = span (pos 1) (pos 12)
+
+abbrev pub dayRange : Range
+dayRange = span (pos 1) (pos 31)
+
+abbrev pub hourRange : Range
+hourRange = span (pos 0) (pos 23)
+
+abbrev pub minuteRange : Range
+minuteRange = span (pos 0) (pos 59)
+
+-- tenths of a second
+abbrev pub secondRange : Range
+secondRange = span (pos 0) (pos 599)
+
+abbrev pub latitudeRange : Range
+latitudeRange = span (negsuc 899999) (pos 900000)
+
+abbrev pub longitudeRange : Range
+longitudeRange = span (negsuc 1799999) (pos 1800000)
+
+-- hundredths of a degree
+abbrev pub distanceRange : Range
+distanceRange = span (pos 0) (pos 18000)
+
+-- tenths of a degree
+abbrev pub azimuthRange : Range
+azimuthRange = span (pos 0) (pos 3600)

@@ -1,0 +1,11 @@
+-- A word's bytes.
+use Prim.Native.Nat.{ℕ}
+use Prim.Native.Char.{code}
+use Prim.Native.String.{String, [], _∷_}
+use mathlib.Core.List.{List}
+use mathlib.Core.List as L
+
+-- the codes of its characters, in order
+unfoldable pub bytesOf : String → List ℕ
+bytesOf [] = L.[]
+bytesOf (c ∷ s) = L._∷_ (code c) (bytesOf s)

@@ -1,0 +1,32 @@
+// The row formats by the number of their record's kind: each one's place in the table of columns, and its sizes.
+ghost use Rattle.formats.specs.Format.{Formed};
+
+// The kind of a phase record.
+pub const PHASE: u8 = 3;
+
+// A row format: its record's kind; its first row in the table and how many it has; the bytes of its line, the numbers
+// and the text bytes of its record.
+pub struct Format {
+    pub kind: u8,
+    pub first: usize,
+    pub rows: usize,
+    pub width: usize,
+    pub numbers: usize,
+    pub texts: usize,
+}
+
+// The format of a kind; any number that names none is taken for the phase line's.
+pub fn format_of(kind: u8) -> Format
+    ensures { λ f. ⌜ Formed kind f ⌝ }
+{
+    match kind {
+        _ => Format {
+            kind: PHASE,
+            first: 0,
+            rows: 64,
+            width: 199,
+            numbers: 18,
+            texts: 68,
+        },
+    }
+}

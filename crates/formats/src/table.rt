@@ -1,0 +1,162 @@
+// The table of all row formats' columns, and the two functions that read and write by it.
+use super::format::format_of;
+use super::ranges::AZIMUTH;
+use super::ranges::DISTANCE;
+use super::ranges::LATITUDE;
+use super::ranges::LONGITUDE;
+use super::ranges::RANGES;
+use super::row::RowRead;
+use super::row::no_row;
+use columns::Outcome;
+use columns::column::ANY_TEXT;
+use columns::column::AS_HELD;
+use columns::column::BLANK;
+use columns::column::CLOCK;
+use columns::column::DECIMAL;
+use columns::column::GROUP;
+use columns::column::LETTER;
+use columns::column::NOT_BLANK_FIRST;
+use columns::column::PLACES;
+use columns::column::TEXT;
+use columns::column::WIDTH;
+use columns::reader::read_columns;
+use columns::row::write_row;
+ghost use mathlib.Core.Path.{_≡_};
+ghost use mathlib.Core.List.{[]};
+ghost use lib.ListN.{length};
+ghost use Rattle.columns.specs.Column.{widths, allSlots, allTexts};
+ghost use Rattle.columns.specs.Reading.{readColumns};
+ghost use Rattle.columns.specs.Row.{writeWhole};
+ghost use Rattle.columns.specs.Table.{slotsOf, Wrote};
+ghost use Rattle.formats.specs.Row.{rowOf};
+ghost use Rattle.formats.specs.Format.{formatOf};
+
+// The columns of every row format, one format after the other.
+const ROWS: [u32; 64] = [
+    // the phase line, specs/Phase.antt
+    TEXT + 5 * WIDTH + NOT_BLANK_FIRST, // 1-5 station
+    BLANK + WIDTH, // 6
+    DECIMAL + 6 * WIDTH + 2 * PLACES + DISTANCE, // 7-12 distance
+    BLANK + WIDTH, // 13
+    DECIMAL + 5 * WIDTH + PLACES + AZIMUTH, // 14-18 event azimuth
+    BLANK + WIDTH, // 19
+    TEXT + 8 * WIDTH + ANY_TEXT, // 20-27 phase
+    BLANK + WIDTH, // 28
+    GROUP + CLOCK, // 29-40 time
+    BLANK + WIDTH, // 41
+    DECIMAL + 5 * WIDTH + PLACES + AS_HELD, // 42-46 time residual
+    BLANK + WIDTH, // 47
+    DECIMAL + 5 * WIDTH + PLACES + AZIMUTH, // 48-52 observed azimuth
+    BLANK + WIDTH, // 53
+    DECIMAL + 5 * WIDTH + PLACES + AS_HELD, // 54-58 azimuth residual
+    BLANK + WIDTH, // 59
+    DECIMAL + 6 * WIDTH + PLACES + AS_HELD, // 60-65 slowness
+    BLANK + WIDTH, // 66
+    DECIMAL + 6 * WIDTH + PLACES + AS_HELD, // 67-72 slowness residual
+    BLANK + WIDTH, // 73
+    LETTER + 3, // 74 time defining: T _ or blank
+    LETTER + 3 * PLACES + 3, // 75 azimuth defining: A _ or blank
+    LETTER + 6 * PLACES + 3, // 76 slowness defining: S _ or blank
+    BLANK + WIDTH, // 77
+    DECIMAL + 5 * WIDTH + PLACES + AS_HELD, // 78-82 signal to noise
+    BLANK + WIDTH, // 83
+    DECIMAL + 9 * WIDTH + PLACES + AS_HELD, // 84-92 amplitude
+    BLANK + WIDTH, // 93
+    DECIMAL + 5 * WIDTH + 2 * PLACES + AS_HELD, // 94-98 period
+    BLANK + WIDTH, // 99
+    LETTER + 9 * PLACES + 4, // 100 type of pick: a m _ or blank
+    LETTER + 13 * PLACES + 4, // 101 short period motion: c d _ or blank
+    LETTER + 17 * PLACES + 5, // 102 onset: i e q _ or blank
+    BLANK + WIDTH, // 103
+    TEXT + 5 * WIDTH + ANY_TEXT, // 104-108 magnitude type
+    LETTER + 22 * PLACES + 3, // 109 < > or blank
+    DECIMAL + 4 * WIDTH + PLACES + AS_HELD, // 110-113 magnitude
+    BLANK + WIDTH, // 114
+    TEXT + 8 * WIDTH + ANY_TEXT, // 115-122 arrival identification
+    TEXT + 3 * WIDTH + ANY_TEXT, // 123-125 its extension
+    BLANK + WIDTH, // 126
+    TEXT + 5 * WIDTH + ANY_TEXT, // 127-131 agency
+    BLANK + WIDTH, // 132
+    TEXT + 8 * WIDTH + ANY_TEXT, // 133-140 deployment
+    BLANK + WIDTH, // 141
+    TEXT + 2 * WIDTH + ANY_TEXT, // 142-143 location
+    BLANK + WIDTH, // 144
+    TEXT + 5 * WIDTH + ANY_TEXT, // 145-149 author
+    BLANK + WIDTH, // 150
+    TEXT + 5 * WIDTH + ANY_TEXT, // 151-155 reporter
+    BLANK + WIDTH, // 156
+    TEXT + 3 * WIDTH + ANY_TEXT, // 157-159 phase channel
+    BLANK + WIDTH, // 160
+    TEXT + 3 * WIDTH + ANY_TEXT, // 161-163 amplitude channel
+    BLANK + WIDTH, // 164
+    TEXT + WIDTH + ANY_TEXT, // 165 long period first motion
+    BLANK + WIDTH, // 166
+    DECIMAL + 8 * WIDTH + 4 * PLACES + LATITUDE, // 167-174 latitude
+    BLANK + WIDTH, // 175
+    DECIMAL + 9 * WIDTH + 4 * PLACES + LONGITUDE, // 176-184 longitude
+    BLANK + WIDTH, // 185
+    DECIMAL + 7 * WIDTH + PLACES + AS_HELD, // 186-192 elevation
+    BLANK + WIDTH, // 193
+    DECIMAL + 6 * WIDTH + PLACES + AS_HELD, // 194-199 instrument depth
+];
+
+// The sets of letters, one after the other.
+const LETTERS: [u8; 25] = *b"T_ A_ S_ am_ cd_ ieq_ <> ";
+
+// The columns of a line of a format's full width.
+pub fn read_cells(kind: u8, line: &[u8]) -> RowRead
+    requires { ⌜ length (now line) ≡ widths (formatOf kind .columns) ⌝ }
+    ensures { λ r. ⌜ r ≡ rowOf (readColumns (formatOf kind .columns) [] 0 (now (line .entry))) ⌝ }
+{
+    let f = format_of(kind);
+    let first = f.first;
+    let rows = f.rows;
+    let mut flags = [0u8; 40];
+    let mut values = [0i64; 40];
+    let mut text = [0u8; 160];
+    let outcome = read_columns(
+        line,
+        0,
+        &ROWS,
+        first,
+        rows,
+        &RANGES,
+        &LETTERS,
+        &mut flags,
+        &mut values,
+        &mut text,
+    );
+    match outcome {
+        Outcome::Refused(number, column) => no_row(number, column),
+        Outcome::Done => RowRead {
+            read: Outcome::Done,
+            flags,
+            values,
+            text,
+        },
+    }
+}
+
+// A format's record, its numbers and its text bytes, as a line over the first bytes of `out`: 6 where it is not whole. Nothing is
+// changed where it is refused.
+pub fn write_cells(kind: u8, flags: &[u8], values: &[i64], text: &[u8], out: &mut [u8]) -> Outcome
+    requires { ⌜ (length (now flags) ≡ allSlots (formatOf kind .columns)) × ((length (now values) ≡ allSlots (formatOf kind .columns)) × (length (now text) ≡ allTexts (formatOf kind .columns))) ⌝ }
+    ensures { λ r. ⌜ Wrote (writeWhole (formatOf kind .columns) (now (flags .entry)) (slotsOf (now (flags .entry)) (now (values .entry))) (now (text .entry)) (length (now (out .entry)))) r (now (out .entry)) (now (out .exit)) ⌝ }
+{
+    let f = format_of(kind);
+    let first = f.first;
+    let rows = f.rows;
+    let width = f.width;
+    write_row(
+        flags,
+        values,
+        text,
+        &ROWS,
+        first,
+        rows,
+        &RANGES,
+        &LETTERS,
+        width,
+        out,
+    )
+}
