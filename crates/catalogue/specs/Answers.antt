@@ -1,5 +1,7 @@
 -- The numbers that the catalogue answers, beside those of a line. Document 01, "Numbers answered".
 use Prim.Native.Nat.{ℕ}
+use Rattle.catalogue.specs.declared.decide.Deed.{Deed}
+use Rattle.catalogue.specs.declared.decide.Deed.the-variants.{Leave, Hold, Note, Wipe, Link}
 
 -- refusals: a new pair while 512 are named; a catalogue that is not in order
 abbrev pub full : ℕ
@@ -40,3 +42,11 @@ isHeld = 27
 
 abbrev pub notHeld : ℕ
 notHeld = 28
+
+-- the number answered for what was decided of a line: a deletion noted 25, a held line removed 24
+abbrev pub answered : Deed → ℕ
+answered (Leave n) = n
+answered (Hold n) = n
+answered (Note v) = noted
+answered (Wipe v) = removed
+answered (Link n) = n

@@ -8,7 +8,7 @@ use lib.ListN.{length}
 use Rattle.columns.specs.Answer.{pick}
 use Rattle.formats.specs.Cube.{eventKind}
 use Rattle.formats.specs.declared.cube.Read.{Read}
-use Rattle.formats.specs.declared.cube.Read.the-variants.{There, Refused}
+use Rattle.formats.specs.Numbers.{readNumber, readColumn}
 use Rattle.catalogue.specs.declared.Call.{Call}
 use Rattle.catalogue.specs.declared.section.Seek.{Seek}
 use Rattle.catalogue.specs.declared.section.Seek.the-variants.{Found, Missing}
@@ -18,7 +18,6 @@ use Rattle.catalogue.specs.declared.decide.Notice.{Notice}
 use Rattle.catalogue.specs.declared.decide.Notice.the-variants.{Event, Delete, Blank}
 use Rattle.catalogue.specs.declared.decide.Findings.{Findings}
 use Rattle.catalogue.specs.declared.take.Receipt.{Receipt}
-use Rattle.catalogue.specs.Answers.{removed, noted}
 use Rattle.catalogue.specs.Assoc.{put}
 use Rattle.catalogue.specs.Line.{Kind, event, delete, blank, kind, key, deletion, deletionKey}
 use Rattle.catalogue.specs.Catalogue.{named}
@@ -39,8 +38,7 @@ noticeOf k v = pick (eqb k eventKind) Event (pick (eqb v 32) Blank Delete)
 
 -- the number and column of a refusal
 abbrev pub refusedCall : Read → Call
-refusedCall (There k t d n) = record { number = 0; column = 0 }
-refusedCall (Refused n k) = record { number = n; column = k }
+refusedCall r = record { number = readNumber r; column = readColumn r }
 
 -- the pair is in the section
 abbrev pub IsFound : Seek → Type 0
@@ -68,14 +66,6 @@ pub record Notable (r l : List ℕ) (v : ℕ) (s : Seek) : Type 0 where
   pub long : 13 ≤ length l
   pub place : Sought deletionKey (key l) (contents r .deletions) s
   pub few : length (put deletionKey (deletion l v) (contents r .deletions)) ≤ 512
-
--- the number answered for a deed
-abbrev pub answered : Deed → ℕ
-answered (Leave n) = n
-answered (Hold n) = n
-answered (Note v) = noted
-answered (Wipe v) = removed
-answered (Link n) = n
 
 -- how many pairs are named after it
 abbrev pub oneMore : Seek → Seek → ℕ → ℕ

@@ -9,6 +9,8 @@ use Rattle.columns.specs.Answer.{pick, Answer, ok, refusal}
 use Rattle.formats.specs.Cube.{Message, readLine}
 use Rattle.formats.specs.Link.{word}
 use Rattle.columns.specs.Word.{wordOf}
+use Rattle.columns.specs.Table.{outcomeOf}
+use Rattle.columns.specs.Numbers.{outcomeNumber, outcomeColumn}
 use Rattle.formats.specs.Cube as cube
 
 -- acceptable as an E line, as a DE line with a version, as a DE line with a blank version, as an LI line; refused
@@ -30,12 +32,10 @@ Acceptable l = kind l ≡ refused → ⊥
 
 -- the number and the column of a refused line
 abbrev pub refusedBy : Answer Message → ℕ
-refusedBy (ok m) = 0
-refusedBy (refusal n k) = n
+refusedBy a = outcomeNumber (outcomeOf a)
 
 abbrev pub refusedAt : Answer Message → ℕ
-refusedAt (ok m) = 0
-refusedAt (refusal n k) = k
+refusedAt a = outcomeColumn (outcomeOf a)
 
 -- a line's pair is its source (columns 11 and 12) with its identifier (columns 3 to 10)
 unfoldable pub pair : List ℕ → List ℕ

@@ -12,7 +12,7 @@ use Rattle.catalogue.specs.declared.decide.Deed.{Deed}
 use Rattle.catalogue.specs.declared.decide.Deed.the-variants.{Leave, Hold, Note, Wipe, Link}
 use Rattle.catalogue.specs.declared.decide.Notice.{Notice}
 use Rattle.catalogue.specs.declared.decide.Notice.the-variants.{Event, Delete, Blank}
-use Rattle.catalogue.specs.Answers.{full, linksFull, stored, replaced, repeated, outdated, removed, noted, nothingHeld}
+use Rattle.catalogue.specs.Answers.{full, linksFull, stored, replaced, repeated, outdated, nothingHeld, answered}
 use Rattle.catalogue.specs.Assoc.{find, put, remove}
 use Rattle.catalogue.specs.Line.{Kind, event, delete, blank, link, refused, kind, refusedBy, version, key, deletion, deletionKey, deletionVersion, tripleKey, linkEntry, linkKey, linkVersion}
 use Rattle.catalogue.specs.Catalogue.{Catalogue, withHeld, withDeletions, withLinks, named}
@@ -91,17 +91,16 @@ pub record Taken : Type 0 where
   pub answer : ℕ
   pub after : Catalogue
 
--- the deed done: a deletion noted is 25, a held line removed 24
+-- the deed done
+abbrev pub changed : Deed → Catalogue → List ℕ → Catalogue
+changed (Leave n) c l = c
+changed (Hold n) c l = withHeld c (put key l (c .held))
+changed (Note v) c l = withDeletions c (put deletionKey (deletion l v) (c .deletions))
+changed (Wipe v) c l = withDeletions (withHeld c (remove key (key l) (c .held))) (put deletionKey (deletion l v) (c .deletions))
+changed (Link n) c l = withLinks c (put linkKey (linkEntry l) (c .links))
+
 unfoldable pub done : Deed → Catalogue → List ℕ → Taken
-done (Leave n) c l = record { answer = n; after = c }
-done (Hold n) c l = record { answer = n; after = withHeld c (put key l (c .held)) }
-done (Note v) c l = record { answer = noted; after = withDeletions c (put deletionKey (deletion l v) (c .deletions)) }
-done (Wipe v) c l =
-    record {
-      answer = removed;
-      after = withDeletions (withHeld c (remove key (key l) (c .held))) (put deletionKey (deletion l v) (c .deletions));
-    }
-done (Link n) c l = record { answer = n; after = withLinks c (put linkKey (linkEntry l) (c .links)) }
+done e c l = record { answer = answered e; after = changed e c l }
 
 unfoldable pub step : Catalogue → List ℕ → Taken
 step c l = done (deedOf c l) c l

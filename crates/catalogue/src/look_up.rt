@@ -3,7 +3,6 @@ use super::Looked;
 use super::PAIRS;
 use super::ROOM;
 use super::key::Key;
-use super::key::key_at;
 use super::order::named_pairs;
 use super::room::held_in;
 use super::section::Seek;

@@ -6,7 +6,7 @@ use super::key::key_at;
 ghost use mathlib.Core.Path.{_≡_};
 ghost use mathlib.Core.List.{[]};
 ghost use Prim.Native.Nat.{_+_, _*_, _≤_, _<_};
-ghost use lib.ListN.{length, getD};
+ghost use lib.ListN.{getD};
 ghost use Rattle.columns.specs.Answer.{pick};
 ghost use Rattle.catalogue.specs.Assoc.{below, AscFrom};
 ghost use Rattle.catalogue.specs.Good.{ascends};

@@ -28,6 +28,7 @@ ghost use mathlib.Core.Path.{_≡_};
 ghost use mathlib.Core.List.{_++_};
 ghost use Prim.Native.Nat.{_≤_};
 ghost use lib.ListN.{length, drop};
+ghost use Rattle.catalogue.specs.Answers.{answered};
 ghost use Rattle.catalogue.specs.Line.{link, kind, deletionKey, deletion as deletionOf};
 ghost use Rattle.catalogue.specs.Assoc.{put as putIn};
 ghost use Rattle.catalogue.specs.Catalogue.{named as namedOf, withDeletions};
@@ -35,7 +36,7 @@ ghost use Rattle.catalogue.specs.Taking.{deedOf};
 ghost use Rattle.catalogue.specs.Room.{roomSize, encode, contents, roomAfter};
 ghost use Rattle.catalogue.specs.Ordered.{Ordered};
 ghost use Rattle.catalogue.specs.Places.{endOf, deletionsIn, linksIn};
-ghost use Rattle.catalogue.specs.Findings.{noticeKind, noticeOf, refusedCall, Known, Notable, answered, oneMore, namedAfter, Took};
+ghost use Rattle.catalogue.specs.Findings.{noticeKind, noticeOf, refusedCall, Known, Notable, oneMore, namedAfter, Took};
 
 // What a line taken into a room in order answers, and how many pairs are named after it.
 pub struct Receipt {

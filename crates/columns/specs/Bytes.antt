@@ -10,6 +10,11 @@ use Rattle.columns.specs.Answer.{pick}
 abbrev pub isText : ℕ → Bool
 isText b = leb 32 b && leb b 126
 
+-- text throughout, a helping definition: computed for words that are written out
+abbrev pub allText : List ℕ → Bool
+allText [] = true
+allText (b ∷ s) = isText b && allText s
+
 abbrev pub isDigit : ℕ → Bool
 isDigit b = leb 48 b && leb b 57
 
@@ -46,6 +51,10 @@ unfoldable pub barred : ℕ → ℕ → ℕ → List ℕ → ℕ
 barred from to column [] = 0
 barred from to column (b ∷ s) =
     pick (isAllowed (inside from to column) b) (barred from to (column + 1) s) column
+
+-- none of the first n bytes is barred
+abbrev pub Free : ℕ → ℕ → ℕ → ℕ → List ℕ → Type 0
+Free from to column n s = (j : ℕ) → j < n → isAllowed (inside from to (column + j)) (getD s j 0) ≡ true
 
 -- a letter of a set
 unfoldable pub member : ℕ → List ℕ → Bool

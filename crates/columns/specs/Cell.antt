@@ -1,4 +1,5 @@
--- What the cursor finds in one column.
+-- What the cursor finds in one column. Document 01, "Numbers in columns": a line is read by a cursor that moves on from field to
+-- field and is handed back after each one.
 use Prim.Native.Nat.{ℕ, _+_, _≤_}
 use mathlib.Core.Path.{_≡_}
 use mathlib.Core.List.{List}

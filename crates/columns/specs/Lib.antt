@@ -7,6 +7,7 @@ pub mod Group
 pub mod Reading
 pub mod Writing
 pub mod Table
+pub mod Numbers
 pub mod Cell
 pub mod Judge
 pub mod Row

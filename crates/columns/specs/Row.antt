@@ -1,4 +1,5 @@
--- What a row of a file format asks of its list of columns: whole records, a first byte that is no blank, sizes that fit.
+-- What a row of a file format asks of its list of columns: whole records, a first byte that is no blank, sizes that fit. Document
+-- 01, "The phase line", which the formats added later follow ("The block").
 use Prim.Native.Nat.{ℕ, _+_, _*_, _≤_, _<_}
 use mathlib.Core.List.{List, [], _∷_}
 use mathlib.Core.Bool.{Bool, true, false, _&&_}
@@ -6,10 +7,12 @@ use lib.IntN.{natAbs}
 use lib.ListN.{take, drop}
 use lib.Dec.{T, eqb, leb}
 use Rattle.columns.specs.Answer.{pick, Answer, refusal, badForm}
-use Rattle.columns.specs.Column.{Slot, missing, given, Rule, anyText, noBrackets, notBlankFirst, Col, numeric, text, letter, group, blank, slots, good, widths, allSlots, allTexts, bracketsIn}
+use Rattle.columns.specs.Column.{Slot, missing, given, Rule, anyText, noBrackets, notBlankFirst, Col, numeric, text, letter, group, blank, slots, widths, allSlots, allTexts}
 use Rattle.columns.specs.Writing.{writeLine}
+use Rattle.columns.specs.Table.{sizesOf, sound, Sound}
 
--- ---- whole records: the numbers of one column, as a time's three, are there together or missing together
+-- ---- whole records: the numbers of one column are there together or missing together. Document 01, "The phase line": a time is
+-- blank, or none of its three is missing
 
 unfoldable pub allSame : ℕ → List ℕ → Bool
 allSame f [] = true
@@ -24,11 +27,11 @@ unfoldable pub whole : List Col → List ℕ → Bool
 whole [] fs = true
 whole (c ∷ cs) fs = alike (take (slots c) fs) && whole cs (drop (slots c) fs)
 
--- a line of its own from a record that is whole, else 6 at column 0
+-- a line of its own from a record that is whole, else 6 at column 0: bytes that are no record, in document 01's opening
 abbrev pub writeWhole : List Col → List ℕ → List Slot → List ℕ → ℕ → Answer (List ℕ)
 writeWhole cs fs ns t room = pick (whole cs fs) (writeLine cs ns t room) (refusal badForm 0)
 
--- ---- numbers that 64 bits hold, with either sign
+-- ---- numbers that 64 bits hold, with either sign: a helping definition about the code
 
 abbrev pub SmallSlot : Slot → Type 0
 SmallSlot missing = Unit {0}
@@ -38,7 +41,7 @@ abbrev pub SmallSlots : List Slot → Type 0
 SmallSlots [] = Unit {0}
 SmallSlots (x ∷ ns) = SmallSlot x × SmallSlots ns
 
--- ---- a first column that may not begin with a blank
+-- ---- a first column that may not begin with a blank. Document 01, "The phase line": so no line looks like a comment
 
 abbrev pub isFilledFirst : Rule → Bool
 isFilledFirst anyText = false
@@ -52,11 +55,11 @@ mayNotBlank (letter s) = false
 mayNotBlank (group g) = false
 mayNotBlank (blank w) = false
 
-unfoldable pub startsFilled : List Col → Bool
+abbrev pub startsFilled : List Col → Bool
 startsFilled [] = false
 startsFilled (c ∷ cs) = mayNotBlank c
 
--- ---- sizes
+-- ---- sizes: helping definitions about the code
 
 -- the bytes of a record: its kind, a flag and eight bytes for each number, and its text
 abbrev pub rowSize : List Col → ℕ
@@ -76,17 +79,18 @@ abbrev pub recordRoom : ℕ
 recordRoom = 512
 
 -- a list of columns that can be a row format: well-formed, no bracket barred, and within the sizes of the code's arrays
-unfoldable pub fits : List Col → Bool
+abbrev pub fits : List Col → Bool
 fits cs =
-    good cs
-    && (bracketsIn cs 0 0 0
+    sound cs 0 0 0
     && (startsFilled cs
-    && (leb (widths cs) lineRoom && (leb (allSlots cs) numberRoom && (leb (allTexts cs) textRoom && leb (rowSize cs) recordRoom)))))
+    && (leb (sizesOf cs .width) lineRoom
+    && (leb (sizesOf cs .numbers) numberRoom
+    && (leb (sizesOf cs .chars) textRoom
+    && leb (1 + sizesOf cs .numbers + 8 * sizesOf cs .numbers + sizesOf cs .chars) recordRoom))))
 
 -- what that test says
 pub record Fits (cs : List Col) : Type 0 where
-  pub fine : T (good cs)
-  pub plain : T (bracketsIn cs 0 0 0)
+  pub sound : Sound cs 0 0 0
   pub filled : T (startsFilled cs)
   pub wide : widths cs ≤ lineRoom
   pub numbers : allSlots cs ≤ numberRoom

@@ -1,13 +1,15 @@
--- A list of columns as a table of flat numbers, a record as flat arrays, and what the table's reader and writers owe.
+-- A list of columns as a table of flat numbers, a record as flat arrays, and what the table's reader and writers owe. The table and
+-- the arrays are helping definitions about the code; what a call owes is document 01's, "Numbers answered", "What each call owes".
 use Prim.Native.Nat.{ℕ, zero, suc, _+_, _/_, _%_, _≤_}
 use mathlib.Core.Path.{_≡_}
 use mathlib.Core.List.{List, [], _∷_, _++_}
+use mathlib.Core.Bool.{Bool, true, _&&_}
 use lib.IntN.{ℤ, pos}
 use lib.ListN.{length, take, drop, getD}
 use lib.Seq.{slice}
 use lib.Dec.{T, eqb, leb, ltb}
 use Rattle.columns.specs.Answer.{pick, Answer, ok, refusal}
-use Rattle.columns.specs.Column.{Slot, missing, given, Rec, Range, asHeld, notNegative, span, Rule, anyText, noBrackets, notBlankFirst, clockTime, groupWidth, Col, numeric, text, letter, group, blank, width, slots, texts, goodCol, good, widths, allSlots, allTexts}
+use Rattle.columns.specs.Column.{Slot, missing, given, Rec, Range, asHeld, notNegative, span, Rule, anyText, noBrackets, notBlankFirst, clockTime, groupWidth, Col, numeric, text, letter, group, blank, width, slots, texts, goodCol, good, widths, allSlots, allTexts, inStretch, bracketsIn}
 use Rattle.columns.specs.declared.number.Form.{Form}
 use Rattle.columns.specs.declared.number.Form.the-variants as N
 use Rattle.columns.specs.declared.group.Group.{Group}
@@ -54,9 +56,39 @@ colOf c rs ls =
     (pick (eqb (c .kind) 4) (group (groupAt (c .last))) (blank (c .width)))))
 
 -- n columns from place i on
-unfoldable pub columnsOf : List ℕ → List ℤ → List ℕ → ℕ → ℕ → List Col
+abbrev pub columnsOf : List ℕ → List ℤ → List ℕ → ℕ → ℕ → List Col
 columnsOf s rs ls i zero = []
 columnsOf s rs ls i (suc n) = colOf (columnIn (getD s i 0)) rs ls ∷ columnsOf s rs ls (i + 1) n
+
+-- ---- helping definitions: what is computed of a written-out list of columns, one test and the sizes
+
+-- what the columns of a list take
+pub record Sizes : Type 0 where
+  pub width : ℕ
+  pub numbers : ℕ
+  pub chars : ℕ
+
+abbrev pub sizesOf : List Col → Sizes
+sizesOf [] = record { width = 0; numbers = 0; chars = 0 }
+sizesOf (c ∷ cs) =
+    record {
+      width = width c + sizesOf cs .width;
+      numbers = slots c + sizesOf cs .numbers;
+      chars = texts c + sizesOf cs .chars;
+    }
+
+-- the first column comes after `at` bytes; each is well-formed, and brackets are barred in the columns `from` to `to` and no other
+abbrev pub sound : List Col → ℕ → ℕ → ℕ → Bool
+sound [] at from to = true
+sound (c ∷ cs) at from to = (goodCol c && inStretch c at from to) && sound cs (at + width c) from to
+
+-- what that test says, and the sizes
+pub record Sound (cs : List Col) (at from to : ℕ) : Type 0 where
+  pub fine : T (good cs)
+  pub brackets : T (bracketsIn cs at from to)
+  pub wide : widths cs ≡ sizesOf cs .width
+  pub numbers : allSlots cs ≡ sizesOf cs .numbers
+  pub chars : allTexts cs ≡ sizesOf cs .chars
 
 -- bytes of the line, numbers and text bytes that a row's column takes: a letter has 1 byte, a group those of its parts
 abbrev pub widthBy : Column → ℕ
@@ -68,7 +100,8 @@ slotsBy c = pick (ltb (c .kind) 2) 1 (pick (eqb (c .kind) 4) 3 0)
 abbrev pub textsBy : Column → ℕ
 textsBy c = pick (ltb (c .kind) 2) 0 (pick (ltb (c .kind) 4) (widthBy c) 0)
 
--- ---- the record: a flag that is 0 says that the number is missing, and then the number is 0
+-- ---- the record: a flag that is 0 says that the number is missing, and then the number is 0. Document 01, "Numbers in columns":
+-- a missing number carries no number
 
 abbrev pub slotOf : ℕ → ℤ → Slot
 slotOf f v = pick (eqb f 0) missing (given v)
@@ -94,7 +127,7 @@ unfoldable pub valuesOf : List Slot → List ℤ
 valuesOf [] = []
 valuesOf (x ∷ ns) = valueOf x ∷ valuesOf ns
 
--- ---- what a call owes
+-- ---- what a call owes. Document 01, "Numbers answered": a refusal changes nothing lent, and bytes past a written line stay
 
 -- xs over the first places of l
 abbrev pub over : {A : Type 0} → List A → List A → List A
@@ -131,7 +164,7 @@ pub record ReadPart (a : Answer Rec) (part : Rec) (r : Outcome) (f f₁ : List �
   pub values : v₁ ≡ over (valuesOf (part .numbers)) v
   pub chars : t₁ ≡ over (part .chars) t
 
--- ---- what a call asks for
+-- ---- what a call asks for: helping definitions about the code
 
 -- a column's places in a line and a record: its width w from `at`, in a line of at most 4096 bytes; its numbers from k, of nf;
 -- its text from t, of nt

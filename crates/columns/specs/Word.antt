@@ -1,4 +1,5 @@
--- A number in bytes, high byte first. docs/RECORDS.md
+-- A number in bytes, high byte first: the numbers of a record (docs/RECORDS.md), and the keys of a room's entries (document 01, "The
+-- catalogue").
 use Prim.Native.Nat.{ℕ, zero, suc, _+_, _*_, _/_, _%_}
 use mathlib.Core.List.{List, [], _∷_, _++_}
 

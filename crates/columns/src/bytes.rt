@@ -9,10 +9,14 @@ ghost use Rattle.columns.specs.Answer.{pick};
 ghost use Rattle.columns.specs.Bytes.{trim, isDigit, isBracket, isAllowed, inside, Plain, barred, member, sameBytes};
 ghost use Rattle.columns.specs.Table.{placed};
 
-// All blank.
+// All blank. One byte, the usual case, is written without a call to the compiler's own filling.
 pub fn blanks(out: &mut [u8])
     ensures { λ _. ⌜ now (out .exit) ≡ replicate (length (now (out .entry))) 32 ⌝ }
 {
+    if out.len() == 1 {
+        out[0] = 32;
+        return;
+    }
     let mut i = 0;
     while i < out.len() {
         out[i] = 32;
@@ -84,7 +88,7 @@ fn is_inside(from: usize, to: usize, column: usize) -> bool
 }
 
 // Whether a byte may not stand in a column, brackets barred in the columns `from` to `to`.
-fn is_barred(b: u8, column: usize, from: usize, to: usize) -> bool
+pub fn is_barred(b: u8, column: usize, from: usize, to: usize) -> bool
     ensures { λ r. ⌜ r ≡ pick (isAllowed (inside from to column) b) false true ⌝ }
 {
     if b < 32 {
@@ -128,43 +132,44 @@ fn plain_part(s: &[u8]) -> bool
     ok
 }
 
-// The same for the bytes from place `from` up to place `to`.
-fn plain_between(s: &[u8], from: usize, to: usize) -> bool
-    requires { ⌜ (from ≤ to) × (to ≤ length (now s)) ⌝ }
-    ensures { λ r. ⌜ (r ≡ true → Plain (length (take (to - from) (drop from (now (s .entry))))) (take (to - from) (drop from (now (s .entry))))) ⌝ }
+// The same as first_barred for the bytes from place `start` up to place `end`.
+fn barred_between(
+    s: &[u8],
+    start: usize,
+    end: usize,
+    column: usize,
+    from: usize,
+    to: usize,
+) -> usize
+    requires { ⌜ (start ≤ end) × ((end ≤ length (now s)) × (column + length (now s) ≤ 70000)) ⌝ }
+    ensures { λ r. ⌜ r ≡ barred from to (column + start) (take (end - start) (drop start (now (s .entry)))) ⌝ }
 {
-    plain_part(&s[from..to])
+    if plain_part(&s[start..end]) {
+        return 0;
+    }
+    scan_barred(&s[start..end], column + start, from, to)
 }
 
-// The same, in parts of sixteen bytes: the last part ends where `s` ends, and may hold bytes of the part before it.
-fn all_plain(s: &[u8]) -> bool
-    ensures { λ r. ⌜ (r ≡ true → Plain (length (now (s .entry))) (now (s .entry))) ⌝ }
+// The lowest column with a barred byte, brackets barred in the columns `from` to `to`, or 0. The bytes of `s` stand from
+// `column` on. In parts of sixteen bytes: the last part ends where `s` ends, and may hold bytes of the part before it.
+pub fn first_barred(s: &[u8], column: usize, from: usize, to: usize) -> usize
+    requires { ⌜ (1 ≤ column) × (column + length (now s) ≤ 70000) ⌝ }
+    ensures { λ r. ⌜ r ≡ barred from to column (now (s .entry)) ⌝ }
 {
     let n = s.len();
     if n < 16 {
-        return plain_part(s);
+        return barred_between(s, 0, n, column, from, to);
     }
     let mut i = 0;
     while 16 < n - i {
         let e = i + 16;
-        if !plain_between(s, i, e) {
-            return false;
+        let found = barred_between(s, i, e, column, from, to);
+        if found != 0 {
+            return found;
         }
         i = e;
     }
-    plain_between(s, n - 16, n)
-}
-
-// The lowest column with a barred byte, brackets barred in the columns `from` to `to`, or 0. The bytes of `s` stand from
-// `column` on.
-pub fn first_barred(s: &[u8], column: usize, from: usize, to: usize) -> usize
-    requires { ⌜ column + length (now s) ≤ 70000 ⌝ }
-    ensures { λ r. ⌜ r ≡ barred from to column (now (s .entry)) ⌝ }
-{
-    if all_plain(s) {
-        return 0;
-    }
-    scan_barred(s, column, from, to)
+    barred_between(s, n - 16, n, column, from, to)
 }
 
 // Whether the letters from place `from` to place `to` have b.

@@ -2,12 +2,11 @@
 use super::bytes::is_digit;
 use super::bytes::skip_blanks;
 ghost use mathlib.Core.Path.{_≡_};
-ghost use Prim.Native.Nat.{ℕ, _+_, _-_, _*_, _^_, _≤_, _<_};
+ghost use Prim.Native.Nat.{_+_, _-_, _*_, _^_, _≤_, _<_};
 ghost use lib.ListN.{length};
 ghost use lib.Seq.{slice};
 ghost use lib.Dec.{T};
 ghost use mathlib.Core.Bool.{false};
-ghost use mathlib.Core.List.{List, _∷_};
 ghost use Rattle.columns.specs.Number.{digits, number, scan, fraction, magnitude, signed, withSign, value, intField, decField, plainScan, Quick, formWidth, goodForm, fieldOf};
 
 // Digits to the last column.

@@ -4,6 +4,8 @@ use super::bytes::blanks;
 use super::bytes::copy;
 use super::bytes::first_barred;
 use super::bytes::has;
+use super::bytes::is_barred;
+use super::column::BLANK;
 use super::column::Column;
 use super::column::allows;
 use super::column::column_in;
@@ -121,14 +123,14 @@ fn put_letter(
     requires { ⌜ (at + length (now s) ≤ 4096) × ((length (now s) ≡ 1) × ((length (now out) ≡ length (now s)) × (from ≤ to))) ⌝ }
     ensures { λ r. ⌜ Wrote (putText false at (now (s .entry)) (pick (member (getD (now (s .entry)) 0 0) (slice from to (now (letters .entry)))) (ok (now (s .entry))) (refusal wrongLetter (at + 1)))) r (now (out .entry)) (now (out .exit)) ⌝ }
 {
-    let barred = barred_in(s, at, false);
-    if barred != 0 {
-        return Outcome::Refused(super::BARRED, barred);
+    let b = s[0];
+    if is_barred(b, at + 1, 0, 0) {
+        return Outcome::Refused(super::BARRED, at + 1);
     }
-    if !has(letters, from, to, s[0]) {
+    if !has(letters, from, to, b) {
         return Outcome::Refused(super::LETTER, at + 1);
     }
-    copy(out, s);
+    out[0] = b;
     Outcome::Done
 }
 
@@ -222,8 +224,15 @@ pub fn put_columns(
     let mut t = 0;
     let mut i = first;
     while i < last {
-        let c = column_in(rows[i]);
+        let row = rows[i];
+        let c = column_in(row);
         let end = at + width_in(c);
+        if BLANK <= row {
+            blanks(&mut out[at..end]);
+            at = end;
+            i += 1;
+            continue;
+        }
         let r = write_cell(
             &mut out[at..end],
             at,

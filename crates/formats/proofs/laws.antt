@@ -1,5 +1,6 @@
 pub mod Check
 pub mod Link
+pub mod EventColumns
 pub mod Cube
 pub mod Record
 pub mod CubeWriting

@@ -1,4 +1,5 @@
 -- What the code comes to at one line of a block: the counts of rows and comments with it, the block's end, or its refusal.
+-- Helping definitions; what is answered for the block stands in Block. Document 01, "The block".
 use Prim.Native.Nat.{ℕ, _+_}
 use mathlib.Core.List.{List}
 use lib.Dec.{ltb}

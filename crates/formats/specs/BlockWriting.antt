@@ -4,11 +4,10 @@ use mathlib.Core.Path.{_≡_}
 use Prim.Native.Nat.{ℕ, _+_, _-_, _*_, _≤_}
 use mathlib.Core.List.{List, [], _∷_, _++_}
 use lib.ListN.{length, take, drop}
-use lib.Dec.{ltb}
-use Rattle.columns.specs.Answer.{Answer, ok, refusal, tooShort}
+use Rattle.columns.specs.Answer.{Answer, ok, refusal}
 use Rattle.columns.specs.Column.{Rec, widths}
 use Rattle.columns.specs.Table.{placed}
-use Rattle.columns.specs.Answer.{unless}
+use Rattle.columns.specs.Writing.{inPlace}
 use Rattle.formats.specs.Lines.{newline, linesOf}
 use Rattle.formats.specs.Record.{replyOf}
 use Rattle.formats.specs.Row.{RowFormat, readRow, readRowRecord, writeRowFrom}
@@ -24,7 +23,7 @@ ended (refusal n k) = refusal n k
 
 -- the header, 11 where it does not fit
 abbrev pub writeHeader : List ℕ → ℕ → Answer (List ℕ)
-writeHeader header room = unless (ltb room (length header)) tooShort 0 (ok header)
+writeHeader header room = inPlace room (length header) (ok header)
 
 -- the room for a line: the bytes from a place on but one, which is for the newline
 abbrev pub roomFrom : ℕ → ℕ → ℕ
@@ -36,11 +35,6 @@ headerCall header at size = ended (writeHeader header (roomFrom at size))
 
 unfoldable pub recordCall : RowFormat → List ℕ → ℕ → ℕ → Answer (List ℕ)
 recordCall F from at size = ended (writeRowFrom F from (roomFrom at size))
-
--- how many bytes a reply says were written
-abbrev pub bytesIn : Reply → ℕ
-bytesIn (R.Done n) = n
-bytesIn (R.Refused n k) = 0
 
 -- the reply to what was written from a place on: the place after it, or the refusal
 abbrev pub fromPlace : ℕ → Reply → Reply

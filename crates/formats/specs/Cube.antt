@@ -6,11 +6,11 @@ use mathlib.Core.Bool.{Bool, _&&_}
 use lib.IntN.{pos}
 use lib.ListN.{length, take, drop, getD, replicate}
 use lib.Dec.{eqb, ltb}
-use Rattle.columns.specs.Answer.{pick, Answer, ok, refusal, unless, differs, wrongLength, barredByte, badForm, tooShort}
+use Rattle.columns.specs.Answer.{pick, Answer, ok, refusal, unless, differs, wrongLength, barredByte, badForm}
 use Rattle.columns.specs.Bytes.{barred}
 use Rattle.columns.specs.Column.{Slot, Rec, Col, integer, text, asHeld, notNegative, required, optional, noBrackets, anyText}
 use Rattle.columns.specs.Reading.{readColumns}
-use Rattle.columns.specs.Writing.{writeColumns}
+use Rattle.columns.specs.Writing.{writeColumns, inPlace}
 use Rattle.columns.specs.Table.{flagsOf, valuesOf, over}
 use Rattle.formats.specs.Ranges.{yearRange, monthRange, dayRange, hourRange, minuteRange, secondRange, latitudeRange, longitudeRange}
 use Rattle.formats.specs.Check.{checkCharacter}
@@ -76,25 +76,45 @@ abbrev pub asEvent : Answer Rec → Answer Message
 asEvent (ok r) = ok (event (r .numbers) (r .chars))
 asEvent (refusal n k) = refusal n k
 
--- the lowest barred byte, brackets barred in columns 3 to 13
+-- a line of `low` to `high` bytes, else 1
+abbrev pub ofLength : {A : Type 0} → ℕ → ℕ → List ℕ → Answer A → Answer A
+ofLength low high l o =
+    unless (ltb (length l) low) wrongLength 0 (unless (ltb high (length l)) wrongLength 0 o)
+
+-- the lowest barred byte, brackets barred in columns 3 to `last`
+abbrev pub barredTo : ℕ → List ℕ → ℕ
+barredTo last l = barred 3 last 1 l
+
+-- no barred byte, else 2 at the lowest
+abbrev pub clearTo : {A : Type 0} → ℕ → List ℕ → Answer A → Answer A
+clearTo last l o = unless (differs (barredTo last l) 0) barredByte (barredTo last l) o
+
+-- brackets are barred in identifier, source and version: a link's version has two bytes
 abbrev pub lowestBarred : List ℕ → ℕ
-lowestBarred l = barred 3 13 1 l
+lowestBarred l = barredTo 13 l
+
+abbrev pub linkBarred : List ℕ → ℕ
+linkBarred l = barredTo 14 l
 
 -- an E line: 80 bytes, the check character in column 80 over the 79 before it
 unfoldable pub readEvent : List ℕ → Answer Message
 readEvent l =
     unless (differs (length l) 80) wrongLength 0
-    (unless (differs (lowestBarred (take 79 l)) 0) barredByte (lowestBarred (take 79 l))
+    (clearTo 13 (take 79 l)
     (unless (differs (getD l 79 0) (checkCharacter (take 79 l))) wrongCheck 80
     (asEvent (readColumns eventColumns [] 2 (drop 2 l)))))
 
--- a DE line: 13 to 80 bytes, free text from column 14 on
+-- a DE or an LI line: its length, its lowest barred byte, then its parts
+abbrev pub readText : ℕ → ℕ → ℕ → (List ℕ → Answer Message) → List ℕ → Answer Message
+readText low high last parts l = ofLength low high l (clearTo last l (parts l))
+
+-- the parts of a DE line, free text from column 14 on
+abbrev pub deleteParts : List ℕ → Answer Message
+deleteParts l = ok (delete (take 11 (drop 2 l)) (drop 13 l))
+
+-- a DE line: 13 to 80 bytes
 unfoldable pub readDelete : List ℕ → Answer Message
-readDelete l =
-    unless (ltb (length l) 13) wrongLength 0
-    (unless (ltb 80 (length l)) wrongLength 0
-    (unless (differs (lowestBarred l) 0) barredByte (lowestBarred l)
-    (ok (delete (take 11 (drop 2 l)) (drop 13 l)))))
+readDelete l = readText 13 80 13 deleteParts l
 
 -- the parts of an LI line, or 6 at column 15 where they are malformed
 unfoldable pub linkParts : List ℕ → Answer Message
@@ -102,16 +122,9 @@ linkParts l =
     pick (eqb (getD l 14 0) 32 && formed (typeOf l) (addressOf l) (textOf l))
     (ok (link (take 12 (drop 2 l)) (typeOf l) (addressOf l) (textOf l))) (refusal badForm 15)
 
--- the lowest barred byte of an LI line, brackets barred in columns 3 to 14
-abbrev pub linkBarred : List ℕ → ℕ
-linkBarred l = barred 3 14 1 l
-
 -- an LI line: 20 to 255 bytes, a version of two bytes, a blank in column 15, then the parts
 unfoldable pub readLink : List ℕ → Answer Message
-readLink l =
-    unless (ltb (length l) 20) wrongLength 0
-    (unless (ltb 255 (length l)) wrongLength 0
-    (unless (differs (linkBarred l) 0) barredByte (linkBarred l) (linkParts l)))
+readLink l = readText 20 255 14 linkParts l
 
 abbrev pub isType : ℕ → ℕ → List ℕ → Bool
 isType a b l = eqb (getD l 0 0) a && eqb (getD l 1 0) b
@@ -165,7 +178,7 @@ lineOf (refusal n k) =
       text = replicate 250 0;
     }
 
--- ---- written: 1 for a DE text over 67 bytes or an LI line outside 20 to 255; 11; fields left to right
+-- ---- what is written, whatever the place for it: fields left to right
 
 -- the type before the columns of an E line, and the check character after them
 abbrev pub sealed : List ℕ → List ℕ
@@ -175,24 +188,29 @@ abbrev pub sealedAnswer : Answer (List ℕ) → Answer (List ℕ)
 sealedAnswer (ok ys) = ok (sealed ys)
 sealedAnswer (refusal n k) = refusal n k
 
+abbrev pub eventWritten : List Slot → List ℕ → Answer (List ℕ)
+eventWritten ns t = sealedAnswer (writeColumns eventColumns [] 2 ns t)
+
+-- the fields of a DE line are text, each refused by its lowest barred byte alone
+abbrev pub deleteWritten : List ℕ → List ℕ → Answer (List ℕ)
+deleteWritten names t =
+    unless (differs (barred 3 13 3 (names ++ t)) 0) barredByte (barred 3 13 3 (names ++ t))
+    (ok (68 ∷ 69 ∷ (names ++ t)))
+
 abbrev pub linkLine : List ℕ → List ℕ → List ℕ → List ℕ → List ℕ
 linkLine names ty ad tx = 76 ∷ 73 ∷ (names ++ (32 ∷ ty ++ (32 ∷ ad ++ (32 ∷ tx))))
 
 -- an LI line, and whether its parts are well formed: 2 in every column comes before 6 at column 15
-unfoldable pub putLink : List ℕ → Bool → ℕ → Answer (List ℕ)
-putLink l f room =
-    unless (ltb (length l) 20) wrongLength 0
-    (unless (ltb 255 (length l)) wrongLength 0
-    (unless (ltb room (length l)) tooShort 0
-    (unless (differs (linkBarred l) 0) barredByte (linkBarred l) (pick f (ok l) (refusal badForm 15)))))
+abbrev pub linkWritten : List ℕ → Bool → Answer (List ℕ)
+linkWritten l f = clearTo 14 l (pick f (ok l) (refusal badForm 15))
 
--- the fields of a DE line are text, each refused by its lowest barred byte alone
+-- ---- written into a place: 1 for a DE text over 67 bytes or an LI line outside 20 to 255; 11; then what is written
+
+unfoldable pub putLink : List ℕ → Bool → ℕ → Answer (List ℕ)
+putLink l f room = ofLength 20 255 l (inPlace room (length l) (linkWritten l f))
+
 unfoldable pub writeMessage : Message → ℕ → Answer (List ℕ)
-writeMessage (event ns t) room =
-    unless (ltb room 80) tooShort 0 (sealedAnswer (writeColumns eventColumns [] 2 ns t))
+writeMessage (event ns t) room = inPlace room 80 (eventWritten ns t)
 writeMessage (delete names t) room =
-    unless (ltb 67 (length t)) wrongLength 0
-    (unless (ltb room (13 + length t)) tooShort 0
-    (unless (differs (barred 3 13 3 (names ++ t)) 0) barredByte (barred 3 13 3 (names ++ t))
-    (ok (68 ∷ 69 ∷ (names ++ t)))))
+    unless (ltb 67 (length t)) wrongLength 0 (inPlace room (13 + length t) (deleteWritten names t))
 writeMessage (link names ty ad tx) room = putLink (linkLine names ty ad tx) (formed ty ad tx) room

@@ -1,10 +1,12 @@
--- The bytes of a CUBE record, one size for the three kinds. docs/RECORDS.md
+-- The bytes of a CUBE record, one size for the three kinds. Document 01, its opening: a record crosses in a byte layout, and bytes
+-- that are no record get 6, column 0; docs/RECORDS.md.
 use Prim.Native.Nat.{ℕ, _+_}
 use mathlib.Core.List.{List, _∷_, _++_}
 use lib.ListN.{length, take, drop, getD, replicate}
 use lib.Dec.{eqb, ltb}
-use Rattle.columns.specs.Answer.{pick, Answer, ok, refusal, badForm, tooShort, unless}
+use Rattle.columns.specs.Answer.{pick, Answer, ok, refusal, badForm, unless}
 use Rattle.columns.specs.Table.{flagsOf, valuesOf, over}
+use Rattle.columns.specs.Writing.{inPlace}
 use Rattle.formats.specs.Cube.{Message, event, delete, link, eventKind, deleteKind, linkKind, readLine, writeMessage}
 use Rattle.columns.specs.Bytes.{sameBytes}
 use Rattle.formats.specs.Record.{packed, slotsIn}
@@ -53,7 +55,7 @@ recordAnswer (ok m) = ok (recordOf m)
 recordAnswer (refusal n k) = refusal n k
 
 unfoldable pub readInto : List ℕ → ℕ → Answer (List ℕ)
-readInto l room = unless (ltb room recordSize) tooShort 0 (recordAnswer (readLine l))
+readInto l room = inPlace room recordSize (recordAnswer (readLine l))
 
 -- ---- a line written from a record: 6 where there is none, then as the message is written
 

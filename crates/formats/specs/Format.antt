@@ -1,9 +1,12 @@
--- The row formats by the number of their record's kind, and what the code's place for each says of it.
+-- The row formats by the number of their record's kind, and what the code's place for each says of it. Document 01, "The phase
+-- line", "The block"; the kinds are those of docs/RECORDS.md.
 use mathlib.Core.Path.{_≡_}
-use mathlib.Core.List.{List}
-use Prim.Native.Nat.{ℕ, _≤_}
+use mathlib.Core.List.{List, [], _∷_, _++_}
+use Prim.Native.Nat.{ℕ, _+_, _≤_}
 use lib.ListN.{length}
-use Rattle.columns.specs.Column.{widths, allSlots, allTexts}
+use lib.Dec.{eqb}
+use Rattle.columns.specs.Answer.{pick}
+use Rattle.columns.specs.Column.{Col, widths, allSlots, allTexts}
 use Rattle.columns.specs.Row.{Fits}
 use Rattle.columns.specs.Table.{over}
 use Rattle.formats.specs.Row.{RowFormat}
@@ -12,16 +15,49 @@ use Rattle.formats.specs.Header.{phaseHeader}
 use Rattle.formats.specs.declared.format.Format.{Format}
 
 -- the phase line and its block
-unfoldable pub phaseFormat : RowFormat
+abbrev pub phaseFormat : RowFormat
 phaseFormat = record { columns = phaseColumns; kind = 3; header = phaseHeader }
 
--- 3 is the phase line's kind, and any other number is taken for it
-unfoldable pub formatOf : ℕ → RowFormat
-formatOf kind = phaseFormat
+-- the other row formats, in the order of the code's table
+abbrev pub otherFormats : List RowFormat
+otherFormats = []
 
--- the row of the code's table where a format begins
+-- ---- helping definitions about the code: where its table holds each format, and what it says of them
+
+-- the columns of formats, one after the other
+abbrev pub allColumns : List RowFormat → List Col
+allColumns [] = []
+allColumns (F ∷ Fs) = F .columns ++ allColumns Fs
+
+-- the columns that the code's table holds
+abbrev pub tableColumns : List Col
+tableColumns = phaseColumns ++ allColumns otherFormats
+
+-- a format with its first row there
+pub record Place : Type 0 where
+  pub format : RowFormat
+  pub first : ℕ
+
+abbrev pub placeAt : RowFormat → ℕ → Place
+placeAt F first = record { format = F; first = first }
+
+-- the format of a kind, of those from a row on; any number that names none is taken for the phase line's kind, 3
+abbrev pub placeIn : ℕ → ℕ → List RowFormat → Place
+placeIn kind first [] = placeAt phaseFormat 0
+placeIn kind first (F ∷ Fs) =
+    pick (eqb kind (F .kind)) (placeAt F first) (placeIn kind (first + length (F .columns)) Fs)
+
+abbrev pub placeOf : ℕ → Place
+placeOf kind = placeIn kind (length phaseColumns) otherFormats
+
+unfoldable pub formatOf : ℕ → RowFormat
+formatOf kind = placeOf kind .format
+
+-- ---- helping definitions about the code
+
+-- the row of its table where a format begins
 unfoldable pub firstRow : ℕ → ℕ
-firstRow kind = 0
+firstRow kind = placeOf kind .first
 
 -- a format's header over the first bytes of a place, and its length
 pub record HeaderPut (kind n : ℕ) (from to : List ℕ) : Type 0 where

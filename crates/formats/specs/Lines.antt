@@ -1,8 +1,8 @@
 -- The lines of a text. Document 01, "The block": lines end at a newline or the end of input; a final newline adds no line.
-use Prim.Native.Nat.{ℕ, suc, _+_}
+use Prim.Native.Nat.{ℕ, _+_}
 use mathlib.Core.List.{List, [], _∷_}
 use lib.Dec.{eqb}
-use lib.ListN.{drop}
+use lib.ListN.{length, drop}
 use Rattle.columns.specs.Answer.{pick}
 
 abbrev pub newline : ℕ
@@ -17,11 +17,15 @@ unfoldable pub linesOf : List ℕ → List (List ℕ)
 linesOf [] = []
 linesOf (b ∷ s) = pick (eqb b newline) ([] ∷ linesOf s) (onFirst b (linesOf s))
 
--- how many bytes stand before the first newline
-unfoldable pub lineLength : List ℕ → ℕ
-lineLength [] = 0
-lineLength (b ∷ s) = pick (eqb b newline) 0 (suc (lineLength s))
+-- the bytes before the first of a code, all where there is none
+unfoldable pub upTo : ℕ → List ℕ → List ℕ
+upTo stop [] = []
+upTo stop (b ∷ s) = pick (eqb b stop) [] (b ∷ upTo stop s)
 
--- where the line that starts at a place ends: the first place from there on that holds a newline, or the length
-unfoldable pub lineEnd : List ℕ → ℕ → ℕ
-lineEnd s at = at + lineLength (drop at s)
+-- where they end, from a place on: the first place from there on that holds such a byte, or the length
+unfoldable pub endFrom : ℕ → List ℕ → ℕ → ℕ
+endFrom stop s at = at + length (upTo stop (drop at s))
+
+-- where the line that starts at a place ends
+abbrev pub lineEnd : List ℕ → ℕ → ℕ
+lineEnd s at = endFrom newline s at

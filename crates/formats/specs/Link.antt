@@ -7,11 +7,11 @@ use lib.ListN.{length, drop}
 use lib.Dec.{eqb, leb}
 use Rattle.columns.specs.Answer.{pick}
 use Rattle.columns.specs.Bytes.{sameBytes}
+use Rattle.formats.specs.Lines.{upTo}
 
 -- the bytes before the first blank, all where there is none
-unfoldable pub word : List ℕ → List ℕ
-word [] = []
-word (b ∷ l) = pick (eqb b 32) [] (b ∷ word l)
+abbrev pub word : List ℕ → List ℕ
+word l = upTo 32 l
 
 -- no blanks
 unfoldable pub solid : List ℕ → Bool

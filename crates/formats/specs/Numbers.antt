@@ -1,23 +1,42 @@
--- Document 01's number and column for each case of what the formats' calls answer ("Numbers answered"): 0 and 0 where a call
--- read or wrote.
+-- Document 01's number, column and values for each case of what the formats' calls answer ("Numbers answered"): 0 and 0 where a
+-- call read or wrote; other results of a refusal are zero.
 use Prim.Native.Nat.{ℕ}
-use Rattle.columns.specs.declared.Outcome.{Outcome}
-use Rattle.columns.specs.declared.Outcome.the-variants as O
+use Rattle.formats.specs.declared.cube.Read.{Read}
+use Rattle.formats.specs.declared.cube.Read.the-variants as L
 use Rattle.formats.specs.declared.Reply.{Reply}
 use Rattle.formats.specs.declared.Reply.the-variants as R
 use Rattle.formats.specs.declared.block.Block.{Block}
 use Rattle.formats.specs.declared.block.Block.the-variants as B
 
--- a line that was judged
-abbrev pub outcomeNumber : Outcome → ℕ
-outcomeNumber O.Done = 0
-outcomeNumber (O.Refused n k) = n
+-- ---- a CUBE line that is read
 
-abbrev pub outcomeColumn : Outcome → ℕ
-outcomeColumn O.Done = 0
-outcomeColumn (O.Refused n k) = k
+abbrev pub readNumber : Read → ℕ
+readNumber (L.There kind type address text) = 0
+readNumber (L.Refused n k) = n
 
--- a call that writes into a lent place, and the bytes that it wrote or the place after them
+abbrev pub readColumn : Read → ℕ
+readColumn (L.There kind type address text) = 0
+readColumn (L.Refused n k) = k
+
+-- the kind of its record, and the lengths of a link's type and address and of a link's or a delete's text
+abbrev pub readKind : Read → ℕ
+readKind (L.There kind type address text) = kind
+readKind (L.Refused n k) = 0
+
+abbrev pub readType : Read → ℕ
+readType (L.There kind type address text) = type
+readType (L.Refused n k) = 0
+
+abbrev pub readAddress : Read → ℕ
+readAddress (L.There kind type address text) = address
+readAddress (L.Refused n k) = 0
+
+abbrev pub readText : Read → ℕ
+readText (L.There kind type address text) = text
+readText (L.Refused n k) = 0
+
+-- ---- a call that writes into a lent place, and the bytes that it wrote or the place after them
+
 abbrev pub replyNumber : Reply → ℕ
 replyNumber (R.Done len) = 0
 replyNumber (R.Refused n k) = n
@@ -30,7 +49,8 @@ abbrev pub replyLength : Reply → ℕ
 replyLength (R.Done len) = len
 replyLength (R.Refused n k) = 0
 
--- a block: a refusal adds its line's number from 1, 0 for the block's length; other results are zero
+-- ---- a block: a refusal adds its line's number from 1, 0 for the block's length
+
 abbrev pub blockNumber : Block → ℕ
 blockNumber (B.Read rows comments used) = 0
 blockNumber (B.Refused number column line) = number
@@ -42,3 +62,16 @@ blockColumn (B.Refused number column line) = column
 abbrev pub blockLine : Block → ℕ
 blockLine (B.Read rows comments used) = 0
 blockLine (B.Refused number column line) = line
+
+-- the count of rows, the comment count and the bytes used
+abbrev pub blockRows : Block → ℕ
+blockRows (B.Read rows comments used) = rows
+blockRows (B.Refused number column line) = 0
+
+abbrev pub blockComments : Block → ℕ
+blockComments (B.Read rows comments used) = comments
+blockComments (B.Refused number column line) = 0
+
+abbrev pub blockUsed : Block → ℕ
+blockUsed (B.Read rows comments used) = used
+blockUsed (B.Refused number column line) = 0

@@ -1,4 +1,4 @@
--- The bytes in which a record crosses to a C caller. docs/RECORDS.md
+-- The bytes in which a record crosses to a C caller: the byte layout that document 01's opening asks for. docs/RECORDS.md
 use mathlib.Core.Path.{_≡_}
 use Prim.Native.Nat.{ℕ, zero, suc, _-_}
 use mathlib.Core.List.{List, [], _∷_, _++_}

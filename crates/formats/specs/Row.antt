@@ -6,11 +6,11 @@ use mathlib.Core.Bool.{_&&_}
 use lib.IntN.{pos}
 use lib.ListN.{length, take, drop, replicate}
 use lib.Dec.{ltb}
-use Rattle.columns.specs.Answer.{pick, Answer, ok, refusal, barredByte, badForm, tooShort}
+use Rattle.columns.specs.Answer.{pick, Answer, ok, refusal, barredByte, badForm}
 use Rattle.columns.specs.Bytes.{barred}
 use Rattle.columns.specs.Column.{Rec, Col, widths, allSlots, allTexts}
 use Rattle.columns.specs.Reading.{readColumns}
-use Rattle.columns.specs.Writing.{writeLine}
+use Rattle.columns.specs.Writing.{inPlace, writeLine}
 use Rattle.columns.specs.Table.{flagsOf, valuesOf, over}
 use Rattle.columns.specs.Row.{whole, rowSize, numberRoom, textRoom}
 use Rattle.columns.specs.Answer.{unless, differs, wrongLength}
@@ -95,7 +95,7 @@ rowAnswer F (refusal n k) = refusal n k
 
 unfoldable pub readRowInto : RowFormat → List ℕ → ℕ → Answer (List ℕ)
 readRowInto F l room =
-    unless (ltb room (rowSize (F .columns))) tooShort 0 (rowAnswer F (readRow (F .columns) l))
+    inPlace room (rowSize (F .columns)) (rowAnswer F (readRow (F .columns) l))
 
 -- ---- a line written from a record: 6 where there is none, then as the record is written
 

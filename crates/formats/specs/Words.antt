@@ -1,4 +1,4 @@
--- A word's bytes.
+-- A word's bytes: a helping definition, so that headers stand in the specs as words.
 use Prim.Native.Nat.{ℕ}
 use Prim.Native.Char.{code}
 use Prim.Native.String.{String, [], _∷_}

@@ -11,7 +11,8 @@ ghost use lib.ListN.{length};
 ghost use Rattle.formats.specs.Record.{Replied};
 ghost use Rattle.formats.specs.Row.{writeRowFrom};
 ghost use Rattle.formats.specs.Format.{formatOf};
-ghost use Rattle.formats.specs.BlockWriting.{ended, writeHeader, headerCall, recordCall, bytesIn, fromPlace, RepliedFrom};
+ghost use Rattle.formats.specs.BlockWriting.{ended, writeHeader, headerCall, recordCall, fromPlace, RepliedFrom};
+ghost use Rattle.formats.specs.Numbers.{replyLength};
 
 // The header and its newline, over the first bytes of `part`.
 fn header_line(kind: u8, part: &mut [u8]) -> Reply
@@ -45,7 +46,7 @@ fn record_line(kind: u8, from: &[u8], part: &mut [u8]) -> Reply
 
 // The reply to what was written from place `at` on.
 fn from_place(at: usize, reply: Reply) -> Reply
-    requires { ⌜ at + bytesIn reply < 2 ^ 64 ⌝ }
+    requires { ⌜ at + replyLength reply < 2 ^ 64 ⌝ }
     ensures { λ r. ⌜ r ≡ fromPlace at reply ⌝ }
 {
     match reply {

@@ -1,4 +1,5 @@
 // The row formats by the number of their record's kind: each one's place in the table of columns, and its sizes.
+ghost use mathlib.Core.Path.{_≡_};
 ghost use Rattle.formats.specs.Format.{Formed};
 
 // The kind of a phase record.
@@ -15,18 +16,32 @@ pub struct Format {
     pub texts: usize,
 }
 
+fn row_format(
+    kind: u8,
+    first: usize,
+    rows: usize,
+    width: usize,
+    numbers: usize,
+    texts: usize,
+) -> Format
+    ensures { λ f. ⌜ f ≡ record { kind = kind; first = first; rows = rows; width = width; numbers = numbers; texts = texts } ⌝ }
+{
+    Format {
+        kind,
+        first,
+        rows,
+        width,
+        numbers,
+        texts,
+    }
+}
+
 // The format of a kind; any number that names none is taken for the phase line's.
 pub fn format_of(kind: u8) -> Format
     ensures { λ f. ⌜ Formed kind f ⌝ }
 {
     match kind {
-        _ => Format {
-            kind: PHASE,
-            first: 0,
-            rows: 64,
-            width: 199,
-            numbers: 18,
-            texts: 68,
-        },
+        // kind, first row, rows; bytes, numbers, text bytes
+        _ => row_format(PHASE, 0, 64, 199, 18, 68),
     }
 }

@@ -3,18 +3,17 @@ ghost use mathlib.Core.Path.{_≡_};
 ghost use mathlib.Core.Bool.{true, false};
 ghost use Prim.Native.Nat.{_≤_, _<_};
 ghost use lib.ListN.{length};
-ghost use Rattle.formats.specs.Lines.{lineEnd};
+ghost use Rattle.formats.specs.Lines.{endFrom, lineEnd};
 
 pub const NEWLINE: u8 = 10;
 
-// The same as line_end, a byte at a time.
-fn scan_end(s: &[u8], at: usize) -> usize
-    requires { ⌜ at ≤ length (now s) ⌝ }
-    ensures { λ r. ⌜ (r ≡ lineEnd (now (s .entry)) at) × (at ≤ r) × (r ≤ length (now (s .entry))) ⌝ }
+// The first place from `at` on that holds the byte `stop`, or the end of `s`.
+pub fn scan_end(s: &[u8], at: usize, stop: u8) -> usize
+    ensures { λ r. ⌜ (r ≡ endFrom stop (now (s .entry)) at) × (at ≤ r) ⌝ }
 {
     let mut i = at;
     while i < s.len() {
-        if s[i] == NEWLINE {
+        if s[i] == stop {
             return i;
         }
         i += 1;
@@ -65,5 +64,5 @@ pub fn line_end(s: &[u8], at: usize) -> usize
         }
         i = e;
     }
-    scan_end(s, i)
+    scan_end(s, i, NEWLINE)
 }

@@ -3,6 +3,7 @@ use super::cube::LINK;
 use super::cube::LineRead;
 use super::cube::Read;
 use super::cube::refused;
+use super::lines::scan_end;
 use columns::Outcome;
 use columns::bytes::copy;
 use columns::bytes::copy_at;
@@ -11,26 +12,12 @@ use columns::bytes::same;
 ghost use mathlib.Core.Path.{_≡_};
 ghost use mathlib.Core.List.{_++_};
 ghost use Prim.Native.Nat.{_+_, _≤_, min};
-ghost use lib.ListN.{length, drop, getD, replicate};
+ghost use lib.ListN.{length, getD, replicate};
 ghost use Rattle.columns.specs.Table.{over, Wrote};
-ghost use Rattle.formats.specs.Link.{word, isWord, formed, textOf, saysDelete};
+ghost use Rattle.formats.specs.Link.{isWord, formed, textOf, saysDelete};
 ghost use Rattle.formats.specs.Cube.{lineOf, link, linkLine, linkParts, readLink, writeMessage};
 
 const BLANK: u8 = 32;
-
-// Where the word that starts at `from` ends: its blank, or the end of the line.
-fn word_end(line: &[u8], from: usize) -> usize
-    ensures { λ r. ⌜ r ≡ from + length (word (drop from (now (line .entry)))) ⌝ }
-{
-    let mut i = from;
-    while i < line.len() {
-        if line[i] == BLANK {
-            return i;
-        }
-        i += 1;
-    }
-    i
-}
 
 // Whether there is at least one byte, and no blank.
 fn is_word(s: &[u8]) -> bool
@@ -39,7 +26,7 @@ fn is_word(s: &[u8]) -> bool
     if s.len() == 0 {
         return false;
     }
-    word_end(s, 0) == s.len()
+    scan_end(s, 0, BLANK) == s.len()
 }
 
 // Whether the parts of a link are well formed.
@@ -83,12 +70,12 @@ fn read_parts(line: &[u8]) -> LineRead
     ensures { λ r. ⌜ r ≡ lineOf (linkParts (now (line .entry))) ⌝ }
 {
     let len = line.len();
-    let end = word_end(line, 15);
+    let end = scan_end(line, 15, BLANK);
     if len <= end {
         return refused(columns::FORM, 15);
     }
     let start = end + 1;
-    let stop = word_end(line, start);
+    let stop = scan_end(line, start, BLANK);
     if len <= stop {
         return refused(columns::FORM, 15);
     }
@@ -227,11 +214,11 @@ pub fn is_delete(line: &[u8]) -> bool
     ensures { λ r. ⌜ r ≡ saysDelete (textOf (now (line .entry))) ⌝ }
 {
     let len = line.len();
-    let end = word_end(line, 15);
+    let end = scan_end(line, 15, BLANK);
     if len <= end {
         return false;
     }
-    let stop = word_end(line, end + 1);
+    let stop = scan_end(line, end + 1, BLANK);
     if len <= stop {
         return false;
     }

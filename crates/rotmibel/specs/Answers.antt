@@ -1,42 +1,36 @@
--- The one number that a call returns: answer, column and length in fixed parts. include/rotmibel.h
+-- The one number that a call returns: answer, column and length in fixed parts. Document 01, its opening: the C relay calls through
+-- plain numbers and byte buffers; include/rotmibel.h.
 use mathlib.Core.Path.{_≡_}
 use mathlib.Core.List.{List}
 use Prim.Native.Nat.{ℕ, _+_, _*_, _/_, _%_, _<_}
-use lib.ListN.{length}
 use lib.Dec.{eqb}
-use Rattle.columns.specs.Answer.{pick, Answer, ok, refusal}
+use Rattle.columns.specs.Answer.{pick, Answer}
 use Rattle.columns.specs.Table.{laid}
 use Rattle.catalogue.specs.declared.Looked.{Looked}
-use Rattle.formats.specs.BlockWriting.{laidFrom}
+use Rattle.formats.specs.Record.{replyOf}
+use Rattle.formats.specs.BlockWriting.{fromPlace, laidFrom}
 use Rattle.formats.specs.BlockWalk.{firstLine, nextLine}
-use Rattle.formats.specs.Numbers.{replyNumber, replyColumn, replyLength, blockNumber, blockColumn, blockLine}
+use Rattle.formats.specs.Numbers.{replyNumber, replyColumn, replyLength, blockNumber, blockColumn, blockLine, blockRows, blockComments, blockUsed}
 use Rattle.formats.specs.declared.block.Block.the-variants as B
 use Rattle.formats.specs.declared.Reply.{Reply}
 use Rattle.formats.specs.declared.block.Block.{Block}
 use Rattle.formats.specs.declared.block_walk.BlockLine.{BlockLine}
-use Rattle.formats.specs.declared.Reply.the-variants as R
 
 -- the answer in the lowest 8 bits, the column in the next 16, the length in the 40 after them
 abbrev pub parts : ℕ → ℕ → ℕ → ℕ
 parts answer column len = answer + 256 * column + 16777216 * len
 
--- 0 with the number of bytes written, or a refusal with its column
-abbrev pub numberOf : Answer (List ℕ) → ℕ
-numberOf (ok ys) = parts 0 0 (length ys)
-numberOf (refusal n k) = parts n k 0
-
--- the same, of a reply as the code has it
+-- a reply: 0 with the number of bytes written, or a refusal with its column
 abbrev pub numberIn : Reply → ℕ
 numberIn r = parts (replyNumber r) (replyColumn r) (replyLength r)
 
 -- a reply whose length and column fit their parts
 abbrev pub small : Reply → Type 0
-small (R.Done len) = len < 1099511627776
-small (R.Refused n k) = k < 65536
+small r = (replyLength r < 1099511627776) × (replyColumn r < 65536)
 
 -- what a call returns, and the lent bytes: what was written over the first of them, or nothing changed
 pub record Answered (a : Answer (List ℕ)) (r : ℕ) (from to : List ℕ) : Type 0 where
-  pub answer : r ≡ numberOf a
+  pub answer : r ≡ numberIn (replyOf a)
   pub bytes : to ≡ laid a from
 
 -- a look-up's answer, with the place of the held line where a length stands
@@ -46,11 +40,16 @@ lookedNumber x = parts (x .number) 0 (x .place)
 -- ---- the phase block
 
 -- on 0 the phase count stands where a column does; the comment count (16 bits) and the bytes used where a length does
+abbrev pub blockRead : Block → ℕ
+blockRead b = parts (blockNumber b) (blockRows b) (blockComments b + 65536 * blockUsed b)
+
 -- a refusal has its column, and its line where a length stands
+abbrev pub blockRefused : Block → ℕ
+blockRefused b = parts (blockNumber b) (blockColumn b) (blockLine b)
+
 abbrev pub blockAnswer : Block → ℕ
-blockAnswer (B.Read phases comments used) = parts (blockNumber (B.Read phases comments used)) phases (comments + 65536 * used)
-blockAnswer (B.Refused number column line) =
-    parts (blockNumber (B.Refused number column line)) (blockColumn (B.Refused number column line)) (blockLine (B.Refused number column line))
+blockAnswer (B.Read phases comments used) = blockRead (B.Read phases comments used)
+blockAnswer (B.Refused number column line) = blockRefused (B.Refused number column line)
 
 -- a line's kind; the number of its phase line where a column stands; its end (20 bits) and the place after it where a length does
 abbrev pub lineNumber : BlockLine → ℕ
@@ -70,21 +69,15 @@ lineIn n =
 abbrev pub metLine : List ℕ → List ℕ → ℕ → BlockLine
 metLine header b before = pick (eqb before 0) (firstLine header b) (nextLine b (lineIn before))
 
--- the place after what was written, modulo 2^40, where a length stands
-abbrev pub placeNumber : ℕ → Answer (List ℕ) → ℕ
-placeNumber at (ok ys) = parts 0 0 ((at + length ys) % 1099511627776)
-placeNumber at (refusal n k) = parts n k 0
-
--- the same, of a reply as the code has it
+-- a reply to a call from a place: the place after what was written, modulo 2^40, where a length stands
 abbrev pub placeIn : Reply → ℕ
 placeIn r = parts (replyNumber r) (replyColumn r) (replyLength r % 1099511627776)
 
 -- a reply whose column fits its part
 abbrev pub lowColumn : Reply → Type 0
-lowColumn (R.Done place) = Unit {0}
-lowColumn (R.Refused n k) = k < 65536
+lowColumn r = replyColumn r < 65536
 
 -- what a call from a place returns, and the lent bytes: what was written there, or nothing changed
 pub record AnsweredFrom (at : ℕ) (a : Answer (List ℕ)) (r : ℕ) (from to : List ℕ) : Type 0 where
-  pub answer : r ≡ placeNumber at a
+  pub answer : r ≡ placeIn (fromPlace at (replyOf a))
   pub bytes : to ≡ laidFrom at a from

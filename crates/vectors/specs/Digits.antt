@@ -1,5 +1,5 @@
 -- What a run of digits of a number field stands for: at most eight of them, so a number of at most eight places.
-use Prim.Native.Nat.{ℕ, _<_}
+use Prim.Native.Nat.{_<_}
 use Rattle.vectors.specs.declared.second.number.Digits.{Digits}
 use Rattle.vectors.specs.declared.second.number.Digits.the-variants.{Value, Bad}
 

@@ -11,7 +11,7 @@ use lib.Seq.{slice, slice-cons, slice-empty, take-nil, drop-nil, take-take, drop
 use lib.Dec.{eqb, ltb}
 use borrow.Author.Tests.{eq-eqb, ne-eqb, eqb-true, lt-leb, le-leb, ltb-true, ltb-false}
 use Rattle.columns.specs.Answer.{pick}
-use Rattle.columns.specs.Bytes.{isText, isBracket, trim, isAllowed, inside, Plain, barred, member, sameBytes}
+use Rattle.columns.specs.Bytes.{isText, isBracket, trim, isAllowed, inside, Plain, Free, barred, member, sameBytes}
 
 -- ---- a stretch of a line
 
@@ -66,7 +66,18 @@ blank-turn l i h e = rw (add-one, take-suc-set l i 32 h, e) (replicate-append-re
 pub blank-end : (l : List ℕ) (i n : ℕ) → i ≤ n → n ≤ i → length l ≡ n → take i l ≡ replicate i 32 → l ≡ replicate n 32
 blank-end l i n h k e f = let z : i ≡ n = omega arith in sym (take-all i l (omega arith)) ∙ f ∙ rw z
 
+pub blank-one : (l : List ℕ) → length l ≡ 1 → set l 0 32 ≡ replicate (length l) 32
+blank-one [] e = absurd (omega arith)
+blank-one (x ∷ []) e = refl
+blank-one (x ∷ y ∷ l) e = absurd (omega arith)
+
 -- ---- copies
+
+pub copy-one : (l s : List ℕ) → length s ≡ 1 → length l ≡ length s → set l 0 (getD s 0 0) ≡ s ++ drop (length s) l
+copy-one l [] e f = absurd (omega arith)
+copy-one [] (b ∷ []) e f = absurd (omega arith)
+copy-one (x ∷ l) (b ∷ []) e f = refl
+copy-one l (b ∷ d ∷ s) e f = absurd (omega arith)
 
 pub copy-turn : (l s out : List ℕ) (i : ℕ) → i < length s → length s ≤ length l → out ≡ take i s ++ drop i l → set out i (getD s i 0) ≡ take (i + 1) s ++ drop (i + 1) l
 copy-turn l s out i h k e =
@@ -136,18 +147,68 @@ plain-none from to k (b ∷ s) p =
     rw (anywhere (inside from to k) (isText b) (pick (isBracket b) false true) (p 0 (omega arith)))
     (plain-none from to (k + 1) s (λ j h. p (suc j) (omega arith)))
 
--- the first i bytes, and then the w bytes from k on, which may begin before i
-module _ (s : List ℕ) (i k w : ℕ) (h : k ≤ i) (f : k + w ≤ length s) (p : Plain i s) (q : Plain (length (take w (drop k s))) (take w (drop k s))) where
-  by-place : (t : Bool) (j : ℕ) → ltb j i ≡ t → j < k + w → isAllowed true (getD s j 0) ≡ true
-  by-place true j e l = p j (ltb-true _ _ e)
-  by-place false j e l =
-      let later : i ≤ j = ltb-false _ _ e in
-      let z : k + (j - k) ≡ j = omega arith in
-      let size = length-take-le w (drop k s) (simp length-drop (omega arith)) in
-      rw (getD-take w (drop k s) (j - k) 0 (omega arith), getD-drop k s (j - k) 0, z) at (q (j - k) (omega arith))
+-- ---- barred bytes, part by part
 
-  pub plain-more : Plain (k + w) s
-  plain-more j l = by-place (ltb j i) j refl l
+module _ (from to : ℕ) where
+  zero-case : (t : Bool) (x k : ℕ) → 1 ≤ k → pick t x k ≡ 0 → (t ≡ true) × (x ≡ 0)
+  zero-case true x k h e = (refl, e)
+  zero-case false x k h e = let y : ⊥ = omega arith in absurd y
+
+  zero-free : (column : ℕ) (s : List ℕ) → 1 ≤ column → barred from to column s ≡ 0 → Free from to column (length s) s
+  unfolding barred
+  zero-free column [] h e j l = let y : ⊥ = omega arith in absurd y
+  zero-free column (b ∷ s) h e zero l = let z : column + 0 ≡ column = omega arith in rw z (zero-case _ _ _ h e .0)
+  zero-free column (b ∷ s) h e (suc j) l =
+      let z : column + 1 + j ≡ column + suc j = omega arith in
+      rw z at (zero-free (column + 1) s (omega arith) (zero-case (isAllowed (inside from to column) b) _ _ h e .1) j (omega arith))
+
+  -- the bytes from k on, where none before is barred
+  free-rest : (column : ℕ) (s : List ℕ) (k : ℕ) → k ≤ length s → Free from to column k s → barred from to column s ≡ barred from to (column + k) (drop k s)
+  free-rest column s zero h p = let z : column + 0 ≡ column = omega arith in rw z
+  free-rest column s (suc k) h p =
+      let z : column + k + 1 ≡ column + suc k = omega arith in
+      free-rest column s k (omega arith) (λ j l. p j (omega arith))
+      ∙ barred-next from to s k (column + k) (omega arith) (rw (p k (omega arith)))
+      ∙ rw (z, add-one)
+
+  front-case : (t : Bool) (x y k : ℕ) → (pick t x k ≡ 0 → ⊥) → ((x ≡ 0 → ⊥) → y ≡ x) → pick t y k ≡ pick t x k
+  front-case true x y k n f = f n
+  front-case false x y k n f = refl
+
+  -- a part with a barred byte has the lowest of all
+  front : (column w : ℕ) (s : List ℕ) → (barred from to column (take w s) ≡ 0 → ⊥) → barred from to column s ≡ barred from to column (take w s)
+  unfolding barred
+  front column zero s n = absurd (n refl)
+  front column (suc w) [] n = refl
+  front column (suc w) (b ∷ s) n =
+      front-case (isAllowed (inside from to column) b) (barred from to (column + 1) (take w s)) (barred from to (column + 1) s) column n (front (column + 1) w s)
+
+  -- the last part, which ends where s ends
+  pub part-last : (column : ℕ) (s : List ℕ) (k : ℕ) → k ≤ length s → Free from to column k s → barred from to (column + k) (take (length s - k) (drop k s)) ≡ barred from to column s
+  part-last column s k h p =
+      rw (take-all (length s - k) (drop k s) (simp length-drop (omega arith))) (sym (free-rest column s k h p))
+
+  -- the first i bytes, and then the w bytes from k on, which may begin before i
+  module _ (column : ℕ) (s : List ℕ) (i k w : ℕ) (h : k ≤ i) (f : i ≤ length s) (p : Free from to column i s) where
+    pub part-found : (n : ℕ) → n ≡ barred from to (column + k) (take w (drop k s)) → (n ≡ 0 → ⊥) → n ≡ barred from to column s
+    part-found n e q =
+        sym
+        (free-rest column s k (omega arith) (λ j l. p j (omega arith))
+        ∙ front (column + k) w (drop k s) (λ z. q (e ∙ z))
+        ∙ sym e)
+
+    module _ (l : 1 ≤ column) (b : k + w ≤ length s) (q : barred from to (column + k) (take w (drop k s)) ≡ 0) where
+      by-place : (t : Bool) (j : ℕ) → ltb j i ≡ t → j < k + w → isAllowed (inside from to (column + j)) (getD s j 0) ≡ true
+      by-place true j e m = p j (ltb-true _ _ e)
+      by-place false j e m =
+          let later : i ≤ j = ltb-false _ _ e in
+          let z : k + (j - k) ≡ j = omega arith in
+          let y : column + k + (j - k) ≡ column + j = omega arith in
+          let size = length-take-le w (drop k s) (simp length-drop (omega arith)) in
+          rw (y, getD-take w (drop k s) (j - k) 0 (omega arith), getD-drop k s (j - k) 0, z) at (zero-free (column + k) (take w (drop k s)) (omega arith) q (j - k) (omega arith))
+
+      pub part-free : Free from to column (k + w) s
+      part-free j m = by-place (ltb j i) j refl m
 
 -- ---- letters of a set
 
@@ -186,6 +247,10 @@ not-first false x e = refl
 pub same-none : (b : ℕ) (s : List ℕ) → sameBytes [] (b ∷ s) ≡ false
 unfolding sameBytes
 same-none b s = refl
+
+pub same-cons : (x y : ℕ) (a b : List ℕ) → sameBytes (x ∷ a) (y ∷ b) ≡ pick (eqb x y) (sameBytes a b) false
+unfolding sameBytes
+same-cons x y a b = refl
 
 pub same-length : (a b : List ℕ) → (length a ≡ length b → ⊥) → sameBytes a b ≡ false
 unfolding sameBytes

@@ -5,14 +5,14 @@ use mathlib.Core.List.{List, [], _∷_, _++_}
 use Prim.Native.Nat.{ℕ, zero, suc, _+_, _-_, _/_, _%_, _^_, _≤_, _<_}
 use native.Mathlib.Omega.{arith}
 use lib.ListN.{length, take, drop, replicate}
-use lib.Dec.{leb}
+use lib.Dec.{leb, T}
 use lib.IntN.{ℤ, pos, negsuc, natAbs}
 use borrow.Author.Tests.{le-leb, lt-leb, ne-eqb, leb-true}
 use Rattle.columns.specs.Answer.{pick}
-use Rattle.columns.specs.Bytes.{isText, isBracket, isAllowed, inside, barred}
+use Rattle.columns.specs.Bytes.{isText, allText, isBracket, isAllowed, inside, barred}
 use Rattle.columns.specs.Writing.{barredIn}
 use Rattle.columns.specs.Number.{digitsOf, plainDigits, minusOf, isNeg, intBytes, decBytes}
-use Rattle.columns.proofs.laws.Tests.{both-true}
+use Rattle.columns.proofs.laws.Tests.{both-true, T-and, T-true}
 
 -- a byte that may stand in a column is a text byte
 pub allowed-bounds : (bars : Bool) (b : ℕ) → isAllowed bars b ≡ true → (32 ≤ b) × (b ≤ 126)
@@ -39,6 +39,11 @@ module _ {bars : Bool} where
   clear-drop zero l p = p
   clear-drop (suc k) l none = none
   clear-drop (suc k) l (more e p) = clear-drop k _ p
+
+-- text throughout
+pub text-clear : (s : List ℕ) → T (allText s) → Clear false s
+text-clear [] t = none
+text-clear (b ∷ s) t = let p = T-and (isText b) (allText s) t in more {b = b} (rw (T-true (isText b) (p .0))) (text-clear s (p .1))
 
 -- ---- the lowest barred byte
 

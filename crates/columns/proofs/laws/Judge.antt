@@ -1,99 +1,155 @@
--- Laws of judging: one column, as the code comes to it, and the turns of the loop.
-use mathlib.Core.Path.{_≡_, refl, sym, ap, _∙_}
-use mathlib.Core.Bool.{Bool}
+-- Laws of judging: one column, as the code comes to it, and the turns of a loop over a table.
+use mathlib.Core.Path.{_≡_, refl, sym, _∙_}
+use mathlib.Core.Bool.{Bool, true, false, not, false≢true}
 use mathlib.Core.List.{List, [], _∷_, _++_}
-use Prim.Native.Nat.{ℕ, _+_, _-_, _≤_, _<_}
+use Prim.Native.Nat.{ℕ, zero, suc, _+_, _-_, _≤_, _<_}
 use native.Mathlib.Omega.{arith}
-use lib.ListN.{length, drop, getD}
+use lib.ListN.{length, take, drop, getD}
 use lib.Seq.{slice, drop-drop}
-use lib.Dec.{T}
+use lib.Dec.{T, eqb}
 use lib.IntN.{ℤ}
+use borrow.Author.Tests.{ne-eqb, eqb-true, eqb-false}
 use Rattle.columns.specs.declared.number.Field.{Field}
 use Rattle.columns.specs.declared.number.Form.{Form}
 use Rattle.columns.specs.declared.column.Column.{Column}
-use Rattle.columns.specs.declared.group.Group.{Group}
-use Rattle.columns.specs.declared.group.Three.{Three}
-use Rattle.columns.specs.Answer.{Answer, ok, refusal, both, chain}
+use Rattle.columns.specs.Answer.{pick, Answer, ok, refusal, isOk, both, chain, requiredBlank}
 use Rattle.columns.specs.Number.{fieldOf}
-use Rattle.columns.specs.Column.{Slot, Rec, joined, Range, allowed, Col, numeric, group, width, goodCol, good, widths}
-use Rattle.columns.specs.Group.{groupField, judgeGroup}
-use Rattle.columns.specs.Reading.{judge, readCell, readColumns}
-use Rattle.columns.specs.Table.{columnIn, colOf, columnsOf, outcomeOf}
-use Rattle.columns.specs.declared.Outcome.{Outcome}
-use Rattle.columns.specs.declared.cursor.CellRead.{CellRead}
-use Rattle.columns.specs.Cell.{cellAnswer, Found}
-use Rattle.columns.specs.Judge.{Judged, Fits}
-use Rattle.columns.proofs.laws.Answers.{Done, done-of, refused-of}
-use Rattle.columns.proofs.laws.Table.{columns-more, columns-none}
+use Rattle.columns.specs.Column.{Slot, Rec, joined, Range, allowed, Rule, anyText, noBrackets, notBlankFirst, Col, numeric, text, width, goodCol, good, widths}
+use Rattle.columns.specs.Reading.{judge, judgeText, asText, readCell, readColumns}
+use Rattle.columns.specs.Table.{columnIn, colOf, ruleAt, columnsOf}
+use Rattle.columns.specs.Judge.{simpleCol, simple, Judged, Judgeable}
+use Rattle.columns.proofs.laws.Table.{columns-more, columns-none, col-integer, col-decimal, col-text, col-letter, col-group, col-blank}
 use Rattle.columns.proofs.laws.Bytes.{slice-is}
 use Rattle.columns.proofs.laws.Tests.{T-and}
-use Rattle.columns.specs.declared.Outcome.the-variants as O
 
 -- ---- one column
 
-pub number-outcome : (c : Col) (m : Form) (q : Bool) (g : Range) (seen : List Slot) (at : ℕ) (f : List ℕ) (x : Field) → c ≡ numeric m q g → x ≡ fieldOf m f → outcomeOf (judge q (allowed g seen) at x) ≡ outcomeOf (readCell c seen at f)
-unfolding readCell
-number-outcome c m q g seen at f x e p = rw (e, p)
+pub ok-pick : {A : Type 0} (t : Bool) (x : A) (n k : ℕ) → t ≡ isOk (pick t (ok x) (refusal n k))
+ok-pick true x n k = refl
+ok-pick false x n k = refl
 
-pub group-outcome : (c : Col) (g : Group) (seen : List Slot) (at : ℕ) (f : List ℕ) (x : Three) → c ≡ group g → x ≡ groupField g f → outcomeOf (judgeGroup g seen at x) ≡ outcomeOf (readCell c seen at f)
-unfolding readCell
-group-outcome c g seen at f x e p = rw (e, p)
+pub ok-unless : {A : Type 0} (t : Bool) (x : A) (n k : ℕ) → not t ≡ isOk (pick t (refusal n k) (ok x))
+ok-unless true x n k = refl
+ok-unless false x n k = refl
 
--- what the cursor found in a column of a width, as an outcome
-pub judged-as : (c : Col) (a : Answer Rec) (seen : List Slot) (at w : ℕ) (l : List ℕ) (r : CellRead) {o : Outcome} → w ≡ width c → a ≡ readCell c seen at (slice at (at + w) l) → Found a r at w (slice at (at + w) l) → ((f : List ℕ) → o ≡ outcomeOf (cellAnswer (r .cell) f)) → o ≡ outcomeOf (readCell c seen at (slice at (at + width c) l))
-judged-as c a seen at w l r e q x t = t (slice at (at + w) l) ∙ rw (← e) (ap outcomeOf (x .answer ∙ q))
+pub number-judged : (c : Col) (m : Form) (q : Bool) (g : Range) (f : List ℕ) (x : Field) (r : Bool) → c ≡ numeric m q g → x ≡ fieldOf m f → ((seen : List Slot) (at : ℕ) → r ≡ isOk (judge q (allowed g seen) at x)) → Judged c f r
+unfolding readCell
+number-judged c m q g f x r e p j = record { accepted = λ seen at. rw (e, ← p) (j seen at) }
+
+text-pick : (t : Bool) (n k m j : ℕ) (f : List ℕ) → isOk (pick t (refusal n k) (ok f)) ≡ isOk (asText (pick t (refusal m j) (ok f)))
+text-pick true n k m j f = refl
+text-pick false n k m j f = refl
+
+text-case : (u : Rule) (at k : ℕ) (f : List ℕ) → isOk (judgeText u at f (ok f)) ≡ isOk (asText (judgeText u k f (ok f)))
+text-case anyText at k f = refl
+text-case noBrackets at k f = refl
+text-case notBlankFirst at k f = text-pick (eqb (getD f 0 0) 32) _ _ _ _ f
+
+pub text-judged : (c : Col) (w : ℕ) (u : Rule) (at : ℕ) (f : List ℕ) (r : Bool) → c ≡ text w u → r ≡ isOk (judgeText u at f (ok f)) → Judged c f r
+unfolding readCell
+text-judged c w u at f r e j = record { accepted = λ seen k. rw e (j ∙ text-case u at k f) }
+
+-- a rule by its number
+pub any-rule : (k at : ℕ) (f : List ℕ) → k < 2 → true ≡ isOk (judgeText (ruleAt k) at f (ok f))
+any-rule zero at f h = refl
+any-rule (suc zero) at f h = refl
+any-rule (suc (suc k)) at f h = let y : ⊥ = omega arith in absurd y
+
+pub first-rule : (k at : ℕ) (f : List ℕ) → 2 ≤ k → not (eqb (getD f 0 0) 32) ≡ isOk (judgeText (ruleAt k) at f (ok f))
+first-rule k at f h =
+    rw (ne-eqb k 0 (λ e. omega arith), ne-eqb k 1 (λ e. omega arith)) (ok-unless (eqb (getD f 0 0) 32) f requiredBlank (at + 1))
+
+-- the kind of an integer is 0, that of a text 2
+module _ (c : Column) (rs : List ℤ) (ls : List ℕ) (s : T (simpleCol (colOf c rs ls))) (n : c .kind ≡ 0 → ⊥) where
+  no-decimal : c .kind ≡ 1 → ⊥
+  no-decimal e = rw (col-decimal c rs ls e) at s
+
+  no-letter : c .kind ≡ 3 → ⊥
+  no-letter e = rw (col-letter c rs ls e) at s
+
+  no-group : c .kind ≡ 4 → ⊥
+  no-group e = rw (col-group c rs ls e) at s
+
+  no-blank : 5 ≤ c .kind → ⊥
+  no-blank e = rw (col-blank c rs ls e) at s
+
+  above : (k m : ℕ) → m ≤ k → (k ≡ m → ⊥) → m + 1 ≤ k
+  above k m h d = omega arith
+
+  by-kind : (t : Bool) → eqb (c .kind) 2 ≡ t → c .kind ≡ 2
+  by-kind true e = eqb-true _ _ e
+  by-kind false e =
+      absurd (no-blank (above _ 4 (above _ 3 (above _ 2 (above _ 1 (above _ 0 (omega arith) n) no-decimal) (eqb-false _ _ e)) no-letter) no-group))
+
+  pub simple-text : colOf c rs ls ≡ text (c .width) (ruleAt (c .last))
+  simple-text = col-text c rs ls (by-kind _ refl)
+
+-- the columns that one takes are its row's
+width-case : (c : Column) (rs : List ℤ) (ls : List ℕ) → T (simpleCol (colOf c rs ls)) → (t : Bool) → eqb (c .kind) 0 ≡ t → c .width ≡ width (colOf c rs ls)
+width-case c rs ls s true e = rw (col-integer c rs ls (eqb-true _ _ e))
+width-case c rs ls s false e = rw (simple-text c rs ls s (eqb-false _ _ e))
+
+pub simple-width : (c : Column) (rs : List ℤ) (ls : List ℕ) → T (simpleCol (colOf c rs ls)) → c .width ≡ width (colOf c rs ls)
+simple-width c rs ls s = width-case c rs ls s _ refl
 
 -- ---- the turns of the loop
 
--- the columns `rest` are left after the first `at` bytes: what they come to is what the line comes to
+-- the columns `rest` are left after the first `at` bytes: whether they are accepted is whether the line is
 pub record Left (cs : List Col) (start : ℕ) (line : List ℕ) (rest : List Col) (at : ℕ) : Type 0 where
-  pub ready : Fits rest at (length line)
+  pub ready : Judgeable rest at (length line)
   pub seen : List Slot
-  pub same : outcomeOf (readColumns cs [] start (drop start line)) ≡ outcomeOf (readColumns rest seen at (drop at line))
+  pub same : isOk (readColumns cs [] start (drop start line)) ≡ isOk (readColumns rest seen at (drop at line))
 
-pub left-start : (cs : List Col) (start : ℕ) (line : List ℕ) → Fits cs start (length line) → Left cs start line cs start
+pub left-start : (cs : List Col) (start : ℕ) (line : List ℕ) → Judgeable cs start (length line) → Left cs start line cs start
 left-start cs start line p = record { ready = p; seen = []; same = refl }
 
-pub left-end : {cs : List Col} {start : ℕ} {line : List ℕ} {at : ℕ} → Left cs start line [] at → O.Done ≡ outcomeOf (readColumns cs [] start (drop start line))
+pub left-end : {cs : List Col} {start : ℕ} {line : List ℕ} {at : ℕ} → Left cs start line [] at → true ≡ isOk (readColumns cs [] start (drop start line))
 unfolding readColumns
 left-end l = sym (l .same)
 
-both-done : (r : Rec) (o : Answer Rec) → outcomeOf (both joined (ok r) o) ≡ outcomeOf o
-both-done r (ok b) = refl
-both-done r (refusal n k) = refl
+both-ok : (r : Rec) (o : Answer Rec) → isOk (both joined (ok r) o) ≡ isOk o
+both-ok r (ok b) = refl
+both-ok r (refusal n k) = refl
 
-chain-done : (x : Answer Rec) (o : Rec → Answer Rec) (r : Rec) → x ≡ ok r → outcomeOf (chain joined x o) ≡ outcomeOf (o r)
-chain-done x o r e = rw e (both-done r (o r))
+chain-not : (x : Answer Rec) (o : Rec → Answer Rec) → isOk x ≡ false → isOk (chain joined x o) ≡ false
+chain-not (ok r) o e = absurd (false≢true (sym e))
+chain-not (refusal n k) o e = refl
 
 module _ {cs : List Col} {start : ℕ} {line : List ℕ} {c : Col} {rest : List Col} {at : ℕ} (l : Left cs start line (c ∷ rest) at) where
   pub left-good : T (goodCol c) × T (good rest)
   unfolding good
   left-good = T-and (goodCol c) (good rest) (l .ready .fine)
 
+  pub left-simple : T (simpleCol c) × T (simple rest)
+  left-simple = T-and (simpleCol c) (simple rest) (l .ready .plain)
+
   pub left-fits : at + (width c + widths rest) ≤ length line
   unfolding widths
   left-fits = l .ready .inside
 
-  pub left-refused : (n k : ℕ) → Judged c at (slice at (at + width c) line) (O.Refused n k) → O.Refused n k ≡ outcomeOf (readColumns cs [] start (drop start line))
-  unfolding readColumns
-  left-refused n k j =
-      let e = refused-of (readCell c (l .seen) at (slice at (at + width c) line)) n k (j .outcome (l .seen)) in
-      sym (l .same ∙ rw (← slice-is line at (width c), e))
+  module _ (w : ℕ) (q : w ≡ width c) where
+    pub left-refused : Judged c (slice at (at + w) line) false → false ≡ isOk (readColumns cs [] start (drop start line))
+    unfolding readColumns
+    left-refused j =
+        sym
+        (l .same
+        ∙ chain-not (readCell c (l .seen) at (take (width c) (drop at line))) (λ r. readColumns rest (l .seen ++ r .numbers) (at + width c) (drop (width c) (drop at line))) (rw (← q, ← slice-is line at w) (sym (j .accepted (l .seen) at))))
 
-  pub left-next : (w : ℕ) → w ≡ width c → Judged c at (slice at (at + width c) line) O.Done → Left cs start line rest (at + w)
-  unfolding readColumns
-  left-next w q j =
-      let d = done-of (readCell c (l .seen) at (slice at (at + width c) line)) (j .outcome (l .seen)) in
-      rw q
-      (record {
-        ready = record { fine = left-good .1; inside = omega (arith, left-fits); low = l .ready .low };
-        seen = l .seen ++ d .value .numbers;
-        same =
-            l .same
-            ∙ rw (← slice-is line at (width c))
-            (chain-done (readCell c (l .seen) at (slice at (at + width c) line)) (λ r. readColumns rest (l .seen ++ r .numbers) (at + width c) (drop (width c) (drop at line))) (d .value) (d .is)
-            ∙ rw (drop-drop (width c) at line));
-      })
+    pub left-next : Judged c (slice at (at + w) line) true → Left cs start line rest (at + w)
+    unfolding readColumns
+    left-next j = next (readCell c (l .seen) at (slice at (at + w) line)) refl (j .accepted (l .seen) at)
+      where
+        next : (x : Answer Rec) → readCell c (l .seen) at (slice at (at + w) line) ≡ x → true ≡ isOk x → Left cs start line rest (at + w)
+        next (refusal n k) e t = absurd (false≢true (sym t))
+        next (ok r) e t =
+            record {
+              ready = record { fine = left-good .1; plain = left-simple .1; inside = omega (arith, left-fits) };
+              seen = l .seen ++ r .numbers;
+              same =
+                  l .same
+                  ∙ rw (← q, ← slice-is line at w, e)
+                  (both-ok r (readColumns rest (l .seen ++ r .numbers) (at + w) (drop w (drop at line))) ∙ rw (drop-drop w at line));
+            }
 
 -- the next row of the table
 pub left-row : (s : List ℕ) (r : List ℤ) (ls : List ℕ) (i n : ℕ) (row : Column) {cs : List Col} {start : ℕ} {line : List ℕ} {at : ℕ} → i < n → row ≡ columnIn (getD s i 0) → Left cs start line (columnsOf s r ls i (n - i)) at → Left cs start line (colOf row r ls ∷ columnsOf s r ls (i + 1) (n - (i + 1))) at

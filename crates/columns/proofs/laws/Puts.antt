@@ -1,9 +1,11 @@
 -- The answers of one written field, each as the code comes to it.
 use mathlib.Core.Path.{_≡_, refl}
 use mathlib.Core.Bool.{Bool, true, false}
-use mathlib.Core.List.{List}
+use mathlib.Core.List.{List, [], _∷_}
+use native.Mathlib.Omega.{arith}
 use Prim.Native.Nat.{ℕ, _+_}
-use lib.ListN.{replicate}
+use lib.ListN.{length, getD, replicate}
+use lib.Dec.{eqb}
 use lib.IntN.{ℤ, natAbs}
 use borrow.Author.Tests.{ne-eqb, eq-eqb}
 use Rattle.columns.specs.Answer.{pick, Answer, ok, refusal, barredByte, requiredBlank, outOfRange, tooWide}
@@ -12,6 +14,7 @@ use Rattle.columns.specs.declared.group.Group.{Group}
 use Rattle.columns.specs.Number.{formWidth, holds, fieldBytes}
 use Rattle.columns.specs.Column.{Slot, missing, given, groupWidth}
 use Rattle.columns.specs.Group.{groupRange, groupBytes, groupHolds, putGroup}
+use Rattle.columns.specs.Bytes.{isAllowed, inside, barred}
 use Rattle.columns.specs.Writing.{putNumber, barredIn, putText}
 use Rattle.columns.specs.Table.{slotOf}
 
@@ -44,6 +47,17 @@ module _ (bars : Bool) (at : ℕ) (t : List ℕ) (o : Answer (List ℕ)) (k : �
 
   pub text-clear : k ≡ 0 → putText bars at t o ≡ o
   text-clear n = rw (← e, n)
+
+-- text of one byte, which is barred or not
+one-case : (at : ℕ) (o : Answer (List ℕ)) (a t : Bool) → t ≡ pick a false true → pick (eqb (pick a 0 (at + 1)) 0) o (refusal barredByte (pick a 0 (at + 1))) ≡ pick t (refusal barredByte (at + 1)) o
+one-case at o true t e = rw e
+one-case at o false t e = rw (e, ne-eqb (at + 1) 0 (λ z. omega arith))
+
+pub one-byte : (at : ℕ) (s : List ℕ) (o : Answer (List ℕ)) (t : Bool) → length s ≡ 1 → t ≡ pick (isAllowed (inside 0 0 (at + 1)) (getD s 0 0)) false true → putText false at s o ≡ pick t (refusal barredByte (at + 1)) o
+unfolding barred
+one-byte at [] o t l e = absurd (omega arith)
+one-byte at (b ∷ []) o t l e = one-case at o (isAllowed (inside 0 0 (at + 1)) b) t e
+one-byte at (b ∷ d ∷ s) o t l e = absurd (omega arith)
 
 -- ---- a group
 

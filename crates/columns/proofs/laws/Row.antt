@@ -2,7 +2,7 @@
 use mathlib.Core.Path.{_≡_, refl, sym, ap, _∙_}
 use mathlib.Core.Bool.{Bool, true, false, _&&_}
 use mathlib.Core.List.{List, [], _∷_, _++_}
-use Prim.Native.Nat.{ℕ, zero, suc, _+_, _-_, _^_, _≤_, _<_}
+use Prim.Native.Nat.{ℕ, zero, suc, _+_, _-_, _*_, _^_, _≤_, _<_}
 use native.Mathlib.Omega.{arith}
 use native.Mathlib.Numerals.{add-one}
 use lib.IntN.{ℤ, pos, negsuc, natAbs}
@@ -14,13 +14,13 @@ use Rattle.columns.specs.Answer.{pick, ok, refusal, requiredBlank, badFo
 use Rattle.columns.specs.declared.number.Form.{Form}
 use Rattle.columns.specs.declared.group.Group.{Group}
 use Rattle.columns.specs.Number.{goodForm, holds, holdsInt, holdsDec, fieldBytes}
-use Rattle.columns.specs.Column.{Slot, missing, given, Rec, joined, allowed, Rule, anyText, noBrackets, notBlankFirst, Col, numeric, text, letter, group, blank, width, slots, texts, goodGroup, goodCol, good, widths, allSlots, allTexts, bracketsIn}
+use Rattle.columns.specs.Column.{Slot, missing, given, Rec, joined, allowed, Rule, anyText, noBrackets, notBlankFirst, Col, numeric, text, letter, group, blank, width, slots, texts, goodGroup, goodCol, good, widths, allSlots}
 use Rattle.columns.specs.Group.{groupHolds, groupRange, groupBytes, putGroup}
 use Rattle.columns.specs.Reading.{judgeText, asText, readCell, readColumns}
 use Rattle.columns.specs.Writing.{putNumber, writeCell, writeColumns, writeLine}
-use Rattle.columns.specs.Table.{flagsOf, valuesOf, flagOf, valueOf, columnIn, colOf, columnsOf, slotsBy}
+use Rattle.columns.specs.Table.{flagsOf, columnIn, colOf, columnsOf, sizesOf, sound, slotsBy}
 use Rattle.columns.specs.declared.column.Column.{Column}
-use Rattle.columns.specs.Row.{allSame, alike, whole, writeWhole, SmallSlot, SmallSlots, isFilledFirst, mayNotBlank, startsFilled, rowSize, fits, Fits}
+use Rattle.columns.specs.Row.{allSame, alike, whole, writeWhole, SmallSlot, SmallSlots, isFilledFirst, mayNotBlank, startsFilled, fits, Fits}
 use Rattle.columns.proofs.laws.Tests.{T-and, both-true}
 use Rattle.columns.proofs.laws.Answers.{split, chained, passed, held}
 use Rattle.columns.proofs.laws.GroupBack.{three-of, fine, part-form}
@@ -28,28 +28,26 @@ use Rattle.columns.proofs.laws.Form.{good-int, good-dec}
 use Rattle.columns.proofs.laws.Columns.{text-read}
 use Rattle.columns.proofs.laws.Written.{power-le}
 use Rattle.columns.proofs.laws.Bounds.{columnOf, pick-bound, write-bound}
-use Rattle.columns.proofs.laws.Table.{sizes, columns-more, columns-none}
+use Rattle.columns.proofs.laws.Table.{sizes, sound-of, columns-more, columns-none}
 use Rattle.columns.specs.declared.number.Form.the-variants as N
 
 -- ---- the computed test, as its parts
 
 pub fits-of : (cs : List Col) → T (fits cs) → Fits cs
-unfolding fits
 fits-of cs t =
-    let a = T-and (good cs) _ t in
-    let b = T-and (bracketsIn cs 0 0 0) _ (a .1) in
-    let c = T-and (startsFilled cs) _ (b .1) in
-    let d = T-and (leb (widths cs) 256) _ (c .1) in
-    let e = T-and (leb (allSlots cs) 40) _ (d .1) in
-    let f = T-and (leb (allTexts cs) 160) (leb (rowSize cs) 512) (e .1) in
+    let a = T-and (sound cs 0 0 0) _ t in
+    let b = T-and (startsFilled cs) _ (a .1) in
+    let c = T-and (leb (sizesOf cs .width) 256) _ (b .1) in
+    let d = T-and (leb (sizesOf cs .numbers) 40) _ (c .1) in
+    let e = T-and (leb (sizesOf cs .chars) 160) _ (d .1) in
+    let s = sound-of cs 0 0 0 (a .0) in
     record {
-      fine = a .0;
-      plain = b .0;
-      filled = c .0;
-      wide = leb→le (widths cs) 256 (d .0);
-      numbers = leb→le (allSlots cs) 40 (e .0);
-      chars = leb→le (allTexts cs) 160 (f .0);
-      bytes = leb→le (rowSize cs) 512 (f .1);
+      sound = s;
+      filled = b .0;
+      wide = omega (arith, leb→le (sizesOf cs .width) 256 (c .0));
+      numbers = omega (arith, leb→le (sizesOf cs .numbers) 40 (d .0));
+      chars = omega (arith, leb→le (sizesOf cs .chars) 160 (e .0));
+      bytes = omega (arith, leb→le (1 + sizesOf cs .numbers + 8 * sizesOf cs .numbers + sizesOf cs .chars) 512 (e .1));
     }
 
 -- ---- what is written is whole, and its numbers fit 64 bits
@@ -160,7 +158,7 @@ cell-filled (group g) seen at line r o f e = absurd f
 cell-filled (blank w) seen at line r g f e = absurd f
 
 pub read-filled : (cs : List Col) (seen : List Slot) (at : ℕ) (line : List ℕ) (r : Rec) → T (good cs) → T (startsFilled cs) → readColumns cs seen at line ≡ ok r → eqb (getD line 0 0) 32 ≡ false
-unfolding good startsFilled readColumns
+unfolding good readColumns
 read-filled [] seen at line r g f e = absurd f
 read-filled (c ∷ cs) seen at line r g f e =
     let s = chained joined (readCell c seen at (take (width c) line)) (λ z. readColumns cs (seen ++ z .numbers) (at + width c) (drop (width c) line)) r e in
@@ -280,16 +278,6 @@ column-wide (group g) o f = absurd f
 column-wide (blank w) g f = absurd f
 
 pub filled-wide : (cs : List Col) → T (good cs) → T (startsFilled cs) → 1 ≤ widths cs
-unfolding good startsFilled widths
+unfolding good widths
 filled-wide [] g f = absurd f
 filled-wide (c ∷ cs) g f = omega (arith, column-wide c (T-and (goodCol c) (good cs) g .0) f)
-
--- ---- a record's flags and values, one number at a time
-
-pub flags-cons : (x : Slot) (ns : List Slot) → flagsOf (x ∷ ns) ≡ flagOf x ∷ flagsOf ns
-unfolding flagsOf
-flags-cons x ns = refl
-
-pub values-cons : (x : Slot) (ns : List Slot) → valuesOf (x ∷ ns) ≡ valueOf x ∷ valuesOf ns
-unfolding valuesOf
-values-cons x ns = refl

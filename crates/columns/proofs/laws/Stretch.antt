@@ -50,6 +50,11 @@ module _ (from to : ℕ) where
   barred-after k [] b h e = let z : k + 0 ≡ k = omega arith in rw z
   barred-after k (x ∷ a) b h e = rest-case (isAllowed (inside from to k) x) k a b (barred-after (k + 1) a b (omega arith)) h e
 
+  -- a byte that may stand in its column
+  pub barred-cons : (k b : ℕ) (s : List ℕ) → isAllowed (inside from to k) b ≡ true → barred from to k (b ∷ s) ≡ barred from to (k + 1) s
+  unfolding barred
+  barred-cons k b s e = rw e
+
   -- ---- a column in the stretch or out of it
 
   module _ (at w i : ℕ) (l : at + 1 ≤ i) (h : i < at + 1 + w) where

@@ -1,22 +1,22 @@
 -- Laws of tables: the column of a row by its kind, its sizes, and the numbers of a record.
 use mathlib.Core.Path.{_≡_, refl, sym, ap, _∙_}
-use mathlib.Core.Bool.{Bool, true, false}
+use mathlib.Core.Bool.{Bool, true, false, _&&_}
 use mathlib.Core.List.{List, [], _∷_, _++_}
 use Prim.Native.Nat.{ℕ, zero, suc, _+_, _-_, _≤_, _<_}
 use native.Mathlib.Omega.{arith}
-use lib.ListN.{length, take, getD}
+use lib.ListN.{length, take, drop, getD, length-append}
 use lib.Dec.{leb, eqb, T, leb→le}
 use lib.IntN.{ℤ, pos}
 use borrow.Author.Tests.{ne-eqb, le-ltb, lt-ltb}
-use lib.Seq.{slice}
+use lib.Seq.{slice, take-at, drop-at}
 use Rattle.columns.specs.declared.column.Column.{Column}
 use Rattle.columns.specs.declared.number.Form.{Form}
 use Rattle.columns.specs.declared.group.Group.{Group}
 use Rattle.columns.specs.Answer.{pick}
 use Rattle.columns.specs.Number.{formWidth, goodForm}
-use Rattle.columns.specs.Column.{Slot, missing, given, Range, Rule, Col, numeric, text, letter, group, blank, width, slots, texts, goodGroup, goodCol, good, widths, allSlots, allTexts}
-use Rattle.columns.specs.Table.{columnIn, rangeAt, ruleAt, groupAt, formIn, colOf, columnsOf, widthBy, slotsBy, textsBy, slotOf, slotsOf, flagOf, valueOf, flagsOf, valuesOf, Table}
-use Rattle.columns.proofs.laws.Tests.{T-and}
+use Rattle.columns.specs.Column.{Slot, missing, given, Range, Rule, Col, numeric, text, letter, group, blank, width, slots, texts, goodGroup, goodCol, good, widths, allSlots, allTexts, inStretch, bracketsIn}
+use Rattle.columns.specs.Table.{columnIn, rangeAt, ruleAt, groupAt, formIn, colOf, columnsOf, sizesOf, sound, Sound, widthBy, slotsBy, textsBy, slotOf, slotsOf, flagOf, valueOf, flagsOf, valuesOf, over, Table}
+use Rattle.columns.proofs.laws.Tests.{T-and, and-T}
 use Rattle.columns.specs.declared.number.Form.the-variants as N
 
 -- ---- columns by their kind
@@ -129,12 +129,32 @@ char-col c rs ls g h = char-by c rs ls g h (kind-of (c .kind))
 -- ---- the columns from a place on
 
 pub columns-more : (s : List ℕ) (r : List ℤ) (ls : List ℕ) (i n : ℕ) → i < n → columnsOf s r ls i (n - i) ≡ colOf (columnIn (getD s i 0)) r ls ∷ columnsOf s r ls (i + 1) (n - (i + 1))
-unfolding columnsOf
 columns-more s r ls i n h = let z : n - i ≡ suc (n - (i + 1)) = omega arith in rw z
 
 pub columns-none : (s : List ℕ) (r : List ℤ) (ls : List ℕ) (i n : ℕ) → n ≤ i → columnsOf s r ls i (n - i) ≡ []
-unfolding columnsOf
 columns-none s r ls i n h = let z : n - i ≡ 0 = omega arith in rw z
+
+pub columns-length : (s : List ℕ) (r : List ℤ) (ls : List ℕ) (i n : ℕ) → length (columnsOf s r ls i n) ≡ n
+columns-length s r ls i zero = refl
+columns-length s r ls i (suc n) = ap suc (columns-length s r ls (i + 1) n)
+
+columns-append : (s : List ℕ) (r : List ℤ) (ls : List ℕ) (i n m : ℕ) → columnsOf s r ls i (n + m) ≡ columnsOf s r ls i n ++ columnsOf s r ls (i + n) m
+columns-append s r ls i zero m = let z : i + 0 ≡ i = omega arith in let y : 0 + m ≡ m = omega arith in rw (z, y)
+columns-append s r ls i (suc n) m =
+    let z : i + suc n ≡ i + 1 + n = omega arith in
+    let y : suc n + m ≡ suc (n + m) = omega arith in
+    rw (z, y, columns-append s r ls (i + 1) n m)
+
+-- a stretch of a table whose columns are known as a whole
+pub columns-among : (s : List ℕ) (r : List ℤ) (ls : List ℕ) (a b c : List Col) → columnsOf s r ls 0 (length s) ≡ a ++ (b ++ c) → (length a + length b ≤ length s) × (columnsOf s r ls (length a) (length b) ≡ b)
+columns-among s r ls a b c e =
+    let n : length s ≡ length a + (length b + length c) = sym (columns-length s r ls 0 (length s)) ∙ ap length e ∙ length-append a (b ++ c) ∙ omega (arith, length-append b c) in
+    let z : 0 + length a ≡ length a = omega arith in
+    let f : columnsOf s r ls 0 (length a) ++ (columnsOf s r ls (length a) (length b) ++ columnsOf s r ls (length a + length b) (length c)) ≡ a ++ (b ++ c) =
+    sym (rw (n, columns-append s r ls 0 (length a) (length b + length c), z, columns-append s r ls (length a) (length b) (length c))) ∙ e in
+    let g : columnsOf s r ls (length a) (length b) ++ columnsOf s r ls (length a + length b) (length c) ≡ b ++ c =
+    sym (drop-at (columnsOf s r ls 0 (length a)) _ (length a) (columns-length s r ls 0 (length a))) ∙ ap (drop (length a)) f ∙ drop-at a (b ++ c) (length a) refl in
+    (omega arith, sym (take-at (columnsOf s r ls (length a) (length b)) _ (length b) (columns-length s r ls (length a) (length b))) ∙ ap (take (length b)) g ∙ take-at b c (length b) refl)
 
 -- ---- the numbers of a record
 
@@ -151,7 +171,7 @@ slot-at (f ∷ fs) [] k e h = let y : ⊥ = omega arith in absurd y
 slot-at (f ∷ fs) (v ∷ vs) zero e h = refl
 slot-at (f ∷ fs) (v ∷ vs) (suc k) e h = slot-at fs vs k (omega arith) (omega arith)
 
-flag-slot : (x : Slot) → slotOf (flagOf x) (valueOf x) ≡ x
+pub flag-slot : (x : Slot) → slotOf (flagOf x) (valueOf x) ≡ x
 flag-slot missing = refl
 flag-slot (given v) = refl
 
@@ -164,6 +184,30 @@ pub values-length : (ns : List Slot) → length (valuesOf ns) ≡ length ns
 unfolding valuesOf
 values-length [] = refl
 values-length (x ∷ ns) = ap suc (values-length ns)
+
+-- one number at a time
+pub flags-cons : (x : Slot) (ns : List Slot) → flagsOf (x ∷ ns) ≡ flagOf x ∷ flagsOf ns
+unfolding flagsOf
+flags-cons x ns = refl
+
+pub values-cons : (x : Slot) (ns : List Slot) → valuesOf (x ∷ ns) ≡ valueOf x ∷ valuesOf ns
+unfolding valuesOf
+values-cons x ns = refl
+
+-- of no numbers nothing is laid down
+pub flags-none : (l : List ℕ) → l ≡ over (flagsOf []) l
+unfolding flagsOf
+flags-none l = refl
+
+pub values-none : (l : List ℤ) → l ≡ over (valuesOf []) l
+unfolding valuesOf
+values-none l = refl
+
+-- flags and values are the record again
+pub slots-back : (ns : List Slot) → slotsOf (flagsOf ns) (valuesOf ns) ≡ ns
+unfolding slotsOf flagsOf valuesOf
+slots-back [] = refl
+slots-back (x ∷ ns) = rw (flag-slot x, slots-back ns)
 
 -- what the reader lays down is the record again
 pub slots-laid : (ns : List Slot) (fs : List ℕ) (vs : List ℤ) → take (length ns) (slotsOf (flagsOf ns ++ fs) (valuesOf ns ++ vs)) ≡ ns
@@ -180,6 +224,36 @@ pub values-append : (a b : List Slot) → valuesOf (a ++ b) ≡ valuesOf a ++ va
 unfolding valuesOf
 values-append [] b = refl
 values-append (x ∷ a) b = rw (values-append a b)
+
+pub flags-last : (a : List Slot) (x : Slot) → flagsOf (a ++ x ∷ []) ≡ flagsOf a ++ flagOf x ∷ []
+unfolding flagsOf
+flags-last a x = flags-append a (x ∷ [])
+
+pub values-last : (a : List Slot) (x : Slot) → valuesOf (a ++ x ∷ []) ≡ valuesOf a ++ valueOf x ∷ []
+unfolding valuesOf
+values-last a x = values-append a (x ∷ [])
+
+-- ---- the computed test, as its parts
+
+pub sound-of : (cs : List Col) (at from to : ℕ) → T (sound cs at from to) → Sound cs at from to
+unfolding good bracketsIn widths allSlots allTexts
+sound-of [] at from to t = record { fine = tt; brackets = tt; wide = refl; numbers = refl; chars = refl }
+sound-of (c ∷ cs) at from to t =
+    let p = T-and (goodCol c && inStretch c at from to) _ t in
+    let q = T-and (goodCol c) (inStretch c at from to) (p .0) in
+    let s = sound-of cs (at + width c) from to (p .1) in
+    record {
+      fine = and-T (goodCol c) (good cs) (q .0) (s .fine);
+      brackets = and-T (inStretch c at from to) _ (q .1) (s .brackets);
+      wide = rw (s .wide);
+      numbers = rw (s .numbers);
+      chars = rw (s .chars);
+    }
+
+-- its places in a line and a record
+pub table-of : {cs : List Col} {at from to : ℕ} → Sound cs at from to → (room nf nv nt : ℕ) → at + sizesOf cs .width ≤ room → room ≤ 4096 → nf ≡ nv → sizesOf cs .numbers ≤ nf → sizesOf cs .chars ≤ nt → Table cs at room 0 nf nv 0 nt
+table-of s room nf nv nt w l e n t =
+    record { fine = s .fine; line = omega (arith, s .wide); low = l; same = e; numbers = omega (arith, s .numbers); chars = omega (arith, s .chars) }
 
 -- ---- the places of the first column, and of those after it
 

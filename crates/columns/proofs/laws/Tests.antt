@@ -13,6 +13,10 @@ pub T-and : (s t : Bool) → T (s && t) → T s × T t
 T-and true t p = (tt, p)
 T-and false t p = absurd p
 
+pub and-T : (s t : Bool) → T s → T t → T (s && t)
+and-T true t p q = q
+and-T false t p q = absurd p
+
 pub both-true : (s t : Bool) → s && t ≡ true → (s ≡ true) × (t ≡ true)
 both-true true t e = (refl, e)
 both-true false t e = let z : _≡_ {A = ℕ} 0 1 = cc in let y : ⊥ = omega arith in absurd y

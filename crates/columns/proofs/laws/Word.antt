@@ -1,7 +1,7 @@
 -- Laws of a number in bytes, high byte first: the loops that write and read it, its equations, that it determines the bytes, and that
 -- it orders as they do.
 use Prim.Native.Nat.{ℕ, zero, suc, _+_, _-_, _*_, _/_, _%_, _^_, _≤_, _<_}
-use mathlib.Core.Path.{_≡_, refl, ap₂, _∙_}
+use mathlib.Core.Path.{_≡_, refl, ap, ap₂, _∙_}
 use mathlib.Core.Logic.{_↔_, _⊎_, inl, inr}
 use mathlib.Core.Bool.{Bool}
 use mathlib.Core.List.{List, [], _∷_, _++_, append-assoc, append-nil}
@@ -86,6 +86,19 @@ pub word-append : (a : ℕ) (xs ys : List ℕ) → wordOf a (xs ++ ys) ≡ wordO
 unfolding wordOf
 word-append a [] ys = refl
 word-append a (x ∷ xs) ys = word-append (a * 256 + x) xs ys
+
+-- the bytes of a number that they can hold, read again
+pub word-back : (w n : ℕ) → n < 256 ^ w → wordOf 0 (wordBytes w n) ≡ n
+unfolding wordBytes
+word-back zero n h = word-nil 0 ∙ omega arith
+word-back (suc w) n h =
+    let k : n < 256 ^ w * 256 = rw pow-suc at h in
+    let d : n / 256 < 256 ^ w = omega arith in
+    word-append 0 (wordBytes w (n / 256)) ((n % 256) ∷ [])
+    ∙ word-cons (wordOf 0 (wordBytes w (n / 256))) (n % 256) []
+    ∙ word-nil (wordOf 0 (wordBytes w (n / 256)) * 256 + n % 256)
+    ∙ ap (λ (x : ℕ). x * 256 + n % 256) (word-back w (n / 256) d)
+    ∙ omega arith
 
 -- the number of bytes determines them
 pub word-inj : (xs ys : List ℕ) (a b : ℕ) → length xs ≡ length ys → Bytes xs → Bytes ys → wordOf a xs ≡ wordOf b ys → (a ≡ b) × (xs ≡ ys)

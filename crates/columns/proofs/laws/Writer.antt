@@ -4,7 +4,7 @@ use mathlib.Core.Bool.{Bool, true, false, false≢true}
 use mathlib.Core.List.{List, [], _∷_, _++_, append-assoc, append-nil}
 use Prim.Native.Nat.{ℕ, _+_, _-_, _≤_, _<_}
 use native.Mathlib.Omega.{arith}
-use lib.ListN.{length, take, drop, getD, replicate, length-append, length-drop}
+use lib.ListN.{length, take, drop, getD, replicate, length-append, length-drop, length-replicate}
 use lib.Dec.{eqb, T}
 use lib.IntN.{ℤ}
 use borrow.Author.Tests.{le-ltb, lt-ltb, ne-eqb, eq-eqb, eqb-true, eqb-false}
@@ -213,6 +213,15 @@ module _ {cs : List Col} {start : ℕ} {S : List Slot} {chs out₀ : List ℕ} {
           let v = cell-written c (take k S) at (take (slots c) (drop k S)) (take (texts c) (drop t chs)) (d .value) (table-good (g .ready) .0) lk lt (d .is) in
           turn-wrote at₁ k₁ t₁ ea ek et (d .value) (v .size) (d .is)
           (wrote-bytes s (d .value) (d .is) ∙ over-whole (d .value) (midOf at (at + w - at) out) (omega (arith, v .size, turn-mid)))
+
+-- a stretch of blanks takes nothing of the record
+pub turn-blank : (c : Column) (rs : List ℤ) (ls : List ℕ) {cs : List Col} {start : ℕ} {S : List Slot} {chs out₀ : List ℕ} {nv : ℕ} {rest : List Col} {at k t : ℕ} {out mid : List ℕ} → Going cs start S chs out₀ nv (colOf c rs ls ∷ rest) at k t out → (w : ℕ) → w ≡ width (colOf c rs ls) → 5 ≤ c .kind → mid ≡ replicate (length (midOf at (at + w - at) out)) 32 → Going cs start S chs out₀ nv rest (at + w) k t (putMid at (at + w - at) out mid)
+turn-blank c rs ls {S = S} {chs = chs} {at = at} {k = k} {t = t} g w q h b =
+    let e = col-blank c rs ls h in
+    let z : width (colOf c rs ls) ≡ c .width = rw e in
+    let no : slots (colOf c rs ls) ≡ 0 = rw e in
+    let none : texts (colOf c rs ls) ≡ 0 = rw e in
+    turn-wrote g w q (at + w) k t (omega (arith, q)) (omega (arith, no)) (omega (arith, none)) (replicate (c .width) 32) (length-replicate (c .width) 32 ∙ sym z) (sym (at-blank c rs ls at k t S chs h)) (b ∙ ap (λ (m : ℕ). replicate m 32) (turn-mid g w q ∙ q ∙ z))
 
 module _ (s : List ℕ) (r : List ℤ) (ls : List ℕ) (i n : ℕ) {cs : List Col} {start : ℕ} {S : List Slot} {chs out₀ : List ℕ} {nv : ℕ} {at k t : ℕ} {out : List ℕ} where
   -- the next row of the table

@@ -33,25 +33,6 @@ plus-plus p k u q j v (B.Read a b c) =
     rw (d, e, f)
 plus-plus p k u q j v (B.Refused n c l) = refl
 
--- ---- a judged line, with the counts p and k
-
-judged-refused : {A : Type 0} (n p k : ℕ) (a : Answer A) (rest : Block) (number column : ℕ) → counted (outcomeOf a) p k ≡ S.Refused number column → onLine n a rest ≡ B.Refused number column n
-judged-refused n p k (ok x) rest number column h = let z : _≡_ {A = ℕ} 0 1 = cc in let y : ⊥ = omega arith in absurd y
-judged-refused n p k (refusal m c) rest number column h = cc
-
-judged-open : {A : Type 0} (p k : ℕ) (a : Answer A) → counted (outcomeOf a) p k ≡ S.Closing → ⊥
-judged-open p k (ok x) h = let z : _≡_ {A = ℕ} 0 1 = cc in omega arith
-judged-open p k (refusal m c) h = let z : _≡_ {A = ℕ} 0 1 = cc in omega arith
-
-record Counts {A : Type 0} (n p k q j : ℕ) (a : Answer A) (rest : Block) : Type 0 where
-  passed : onLine n a rest ≡ rest
-  phases : q ≡ p
-  comments : j ≡ k
-
-judged-counted : {A : Type 0} (n p k q j : ℕ) (a : Answer A) (rest : Block) → counted (outcomeOf a) p k ≡ S.Counted q j → Counts n p k q j a rest
-judged-counted n p k q j (ok x) rest h = record { passed = refl; phases = cc; comments = cc }
-judged-counted n p k q j (refusal m c) rest h = let z : _≡_ {A = ℕ} 0 1 = cc in let y : ⊥ = omega arith in absurd y
-
 -- no lines left: no more bytes are used than there are
 capped : (size u : ℕ) → size ≤ u → pick (ltb size u) size u ≡ size
 capped size u h = elim (lt-or-le size u) [ inl p ↦ rw (lt-ltb size u p) | inr p ↦ rw (le-ltb size u p) (omega (arith, p, h)) ]
@@ -63,29 +44,21 @@ module _ (header : List ℕ) (read : List ℕ → Answer Rec) where
     abbrev told : Kind → Block
     told κ = plus p k u (readLine read κ n (ltb 0 p) l rest)
 
-    kind-refused : (κ : Kind) (number column : ℕ) → stepOf read κ p k l ≡ S.Refused number column → told κ ≡ B.Refused number column n
-    kind-refused closing number column h = let z : _≡_ {A = ℕ} 0 1 = cc in let y : ⊥ = omega arith in absurd y
-    kind-refused comment number column h =
-        ap (plus p k u) (judged-refused n p (k + 1) (readComment (ltb 0 p) l) (plus 0 1 (withNewline l) (rest (ltb 0 p))) number column h)
-    kind-refused row number column h =
-        ap (plus p k u) (judged-refused n (p + 1) k (read l) (plus 1 0 (withNewline l) (rest true)) number column h)
+    -- what a step comes to
+    abbrev stepped : Step → Block
+    stepped (S.Refused number column) = B.Refused number column n
+    stepped S.Closing = B.Read p k (u + withNewline l)
+    stepped (S.Counted q j) = plus q j (u + withNewline l) (rest (ltb 0 q))
 
-    kind-closing : (κ : Kind) → stepOf read κ p k l ≡ S.Closing → told κ ≡ B.Read p k (u + withNewline l)
-    kind-closing closing h = let d : p + 0 ≡ p = omega arith in let e : k + 0 ≡ k = omega arith in rw (d, e)
-    kind-closing comment h = absurd (judged-open p (k + 1) (readComment (ltb 0 p) l) h)
-    kind-closing row h = absurd (judged-open (p + 1) k (read l) h)
+    -- a judged line, which adds i rows and m comments
+    judged : {A : Type 0} (i m q j : ℕ) (s : Bool) (a : Answer A) → p + i ≡ q → k + m ≡ j → s ≡ ltb 0 q → plus p k u (onLine n a (plus i m (withNewline l) (rest s))) ≡ stepped (counted (outcomeOf a) q j)
+    judged i m q j s (ok x) d e f = plus-plus p k u i m (withNewline l) (rest s) ∙ rw (d, e, f)
+    judged i m q j s (refusal number column) d e f = refl
 
-    kind-counted : (κ : Kind) (q j : ℕ) → stepOf read κ p k l ≡ S.Counted q j → told κ ≡ plus q j (u + withNewline l) (rest (ltb 0 q))
-    kind-counted closing q j h = let z : _≡_ {A = ℕ} 0 1 = cc in let y : ⊥ = omega arith in absurd y
-    kind-counted comment q j h =
-        let w = judged-counted n p (k + 1) q j (readComment (ltb 0 p) l) (plus 0 1 (withNewline l) (rest (ltb 0 p))) h in
-        let d : p + 0 ≡ p = omega arith in
-        ap (plus p k u) (w .passed) ∙ plus-plus p k u 0 1 (withNewline l) (rest (ltb 0 p)) ∙ rw (d, w .phases, w .comments)
-    kind-counted row q j h =
-        let w = judged-counted n (p + 1) k q j (read l) (plus 1 0 (withNewline l) (rest true)) h in
-        let d : k + 0 ≡ k = omega arith in
-        let t : ltb 0 (p + 1) ≡ true = lt-ltb 0 (p + 1) (omega arith) in
-        ap (plus p k u) (w .passed) ∙ plus-plus p k u 1 0 (withNewline l) (rest true) ∙ rw (d, w .phases, w .comments, t)
+    kind-told : (κ : Kind) → told κ ≡ stepped (stepOf read κ p k l)
+    kind-told closing = let d : p + 0 ≡ p = omega arith in let e : k + 0 ≡ k = omega arith in rw (d, e)
+    kind-told comment = judged 0 1 p (k + 1) (ltb 0 p) (readComment (ltb 0 p) l) (omega arith) refl refl
+    kind-told row = judged 1 0 (p + 1) k true (read l) refl (omega arith) (sym (lt-ltb 0 (p + 1) (omega arith)))
 
   -- ---- the lines from a place on
 
@@ -119,25 +92,25 @@ module _ (header : List ℕ) (read : List ℕ → Answer Rec) where
     unfolding readLines
     told-here = rw (lines-past b at h)
 
-    pub turn-refused : (number column : ℕ) → stepOf read (kindOf (lineOf b at)) p k (lineOf b at) ≡ S.Refused number column
-        → atMost (length b) (plus p k at (readLines read line (ltb 0 p) (linesOf (drop at b)))) ≡ B.Refused number column line
-    turn-refused number column e =
-        ap (atMost (length b)) (told-here ∙ kind-refused line at p k (lineOf b at) (λ s. readLines read (suc line) s (linesOf (drop (nextOf b at) b))) (kindOf (lineOf b at)) number column e)
+    abbrev pub turned : Step → Block
+    turned (S.Refused number column) = B.Refused number column line
+    turned S.Closing = B.Read p k (nextOf b at)
+    turned (S.Counted q j) = atMost (length b) (plus q j (nextOf b at) (readLines read (line + 1) (ltb 0 q) (linesOf (drop (nextOf b at) b))))
 
-    pub turn-closing : stepOf read (kindOf (lineOf b at)) p k (lineOf b at) ≡ S.Closing
-        → atMost (length b) (plus p k at (readLines read line (ltb 0 p) (linesOf (drop at b)))) ≡ B.Read p k (nextOf b at)
-    turn-closing e =
-        ap (atMost (length b)) (told-here ∙ kind-closing line at p k (lineOf b at) (λ s. readLines read (suc line) s (linesOf (drop (nextOf b at) b))) (kindOf (lineOf b at)) e ∙ ap (B.Read p k) (after-line b at h))
-        ∙ ap (B.Read p k) (used-next b at h (lt-or-le (lineEnd b at) (length b)))
+    pub turn : (s : Step) → stepOf read (kindOf (lineOf b at)) p k (lineOf b at) ≡ s → atMost (length b) (plus p k at (readLines read line (ltb 0 p) (linesOf (drop at b)))) ≡ turned s
+    turn s e = ap (atMost (length b)) (told-here ∙ kind-told line at p k (lineOf b at) rest (kindOf (lineOf b at)) ∙ ap (stepped line at p k (lineOf b at) rest) e) ∙ by-step s
+      where
+        rest : Bool → Block
+        rest s = readLines read (suc line) s (linesOf (drop (nextOf b at) b))
 
-    pub turn-counted : (q j : ℕ) → stepOf read (kindOf (lineOf b at)) p k (lineOf b at) ≡ S.Counted q j
-        → atMost (length b) (plus p k at (readLines read line (ltb 0 p) (linesOf (drop at b)))) ≡ atMost (length b) (plus q j (nextOf b at) (readLines read (line + 1) (ltb 0 q) (linesOf (drop (nextOf b at) b))))
-    turn-counted q j e =
-        let m : suc line ≡ line + 1 = omega arith in
-        let rest : Bool → Block = λ s. readLines read (suc line) s (linesOf (drop (nextOf b at) b)) in
-        ap (atMost (length b)) (told-here ∙ kind-counted line at p k (lineOf b at) rest (kindOf (lineOf b at)) q j e ∙ ap (λ (u : ℕ). plus q j u (rest (ltb 0 q))) (after-line b at h))
-        ∙ next-capped b at h (lt-or-le (lineEnd b at) (length b)) q j (suc line) (ltb 0 q)
-        ∙ ap (λ (i : ℕ). atMost (length b) (plus q j (nextOf b at) (readLines read i (ltb 0 q) (linesOf (drop (nextOf b at) b))))) m
+        by-step : (s : Step) → atMost (length b) (stepped line at p k (lineOf b at) rest s) ≡ turned s
+        by-step (S.Refused number column) = refl
+        by-step S.Closing = ap (λ (u : ℕ). atMost (length b) (B.Read p k u)) (after-line b at h) ∙ ap (B.Read p k) (used-next b at h (lt-or-le (lineEnd b at) (length b)))
+        by-step (S.Counted q j) =
+            let m : suc line ≡ line + 1 = omega arith in
+            ap (λ (u : ℕ). atMost (length b) (plus q j u (rest (ltb 0 q)))) (after-line b at h)
+            ∙ next-capped b at h (lt-or-le (lineEnd b at) (length b)) q j (suc line) (ltb 0 q)
+            ∙ ap (λ (i : ℕ). atMost (length b) (plus q j (nextOf b at) (readLines read i (ltb 0 q) (linesOf (drop (nextOf b at) b))))) m
 
   -- ---- the first line
 
@@ -180,37 +153,38 @@ module _ (header : List ℕ) (read : List ℕ → Answer Rec) where
   reading-start b from h = record { inside = h; lines = omega arith; phases = omega arith; comments = omega arith; same = refl }
 
   counted-low : {A : Type 0} (a : Answer A) (p k q j : ℕ) → counted (outcomeOf a) p k ≡ S.Counted q j → (q ≡ p) × (j ≡ k)
-  counted-low a p k q j h = let w = judged-counted 0 p k q j a (B.Read 0 0 0) h in (w .phases, w .comments)
+  counted-low (ok x) p k q j h = (cc, cc)
+  counted-low (refusal m c) p k q j h = let z : _≡_ {A = ℕ} 0 1 = cc in let y : ⊥ = omega arith in absurd y
 
   step-low : (κ : Kind) (p k : ℕ) (l : List ℕ) (q j : ℕ) → stepOf read κ p k l ≡ S.Counted q j → (q ≤ p + 1) × (j ≤ k + 1)
   step-low closing p k l q j h = let z : _≡_ {A = ℕ} 0 1 = cc in let y : ⊥ = omega arith in absurd y
   step-low comment p k l q j h = let w = counted-low (readComment (ltb 0 p) l) p (k + 1) q j h in (omega (arith, w .0), omega (arith, w .1))
   step-low row p k l q j h = let w = counted-low (read l) (p + 1) k q j h in (omega (arith, w .0), omega (arith, w .1))
 
-  module _ (b : List ℕ) (from at line p k : ℕ) (r : Reading b from at line p k) where
+  module _ {b : List ℕ} {from at line p k : ℕ} (r : Reading b from at line p k) where
     abbrev whole : Block
     whole = atMost (length b) (plus 0 0 from (readLines read 2 false (linesOf (drop from b))))
 
     pub reading-end : length b ≤ at → B.Read p k at ≡ whole
     reading-end h = sym (r .same ∙ turn-end b at line p k (ltb 0 p) (r .inside) h)
 
-    module _ (start end next : ℕ) (f : FoundAt b at start end next) where
+    module _ {start end next : ℕ} (f : FoundAt b at start end next) where
       abbrev line-here : List ℕ
       line-here = take (end - start) (drop start b)
 
       step-here : (s : Step) → s ≡ stepOf read (kindOf line-here) p k line-here → stepOf read (kindOf (lineOf b at)) p k (lineOf b at) ≡ s
-      step-here s e = sym (e ∙ ap (λ (l : List ℕ). stepOf read (kindOf l) p k l) (line-is b at start end next f))
+      step-here s e = sym (e ∙ ap (λ (l : List ℕ). stepOf read (kindOf l) p k l) (line-is f))
 
-      module _ (s : Step) (e : s ≡ stepOf read (kindOf line-here) p k line-here) where
+      module _ {s : Step} (e : s ≡ stepOf read (kindOf line-here) p k line-here) where
         pub reading-refused : (number column : ℕ) → s ≡ S.Refused number column → B.Refused number column line ≡ whole
-        reading-refused number column h = sym (r .same ∙ turn-refused b at (f .inside) line p k number column (step-here s e ∙ h))
+        reading-refused number column h = sym (r .same ∙ turn b at (f .inside) line p k (S.Refused number column) (step-here s e ∙ h))
 
         pub reading-closing : s ≡ S.Closing → B.Read p k next ≡ whole
-        reading-closing h = ap (B.Read p k) (f .after) ∙ sym (r .same ∙ turn-closing b at (f .inside) line p k (step-here s e ∙ h))
+        reading-closing h = ap (B.Read p k) (f .after) ∙ sym (r .same ∙ turn b at (f .inside) line p k S.Closing (step-here s e ∙ h))
 
         pub reading-next : (q j : ℕ) → s ≡ S.Counted q j → Reading b from next (line + 1) q j
         reading-next q j h =
-            let w = next-after b at start end next f in
+            let w = next-after f in
             let v = step-low (kindOf (lineOf b at)) p k (lineOf b at) q j (step-here s e ∙ h) in
             let a = r .lines in
             let c = r .phases in
@@ -221,15 +195,15 @@ module _ (header : List ℕ) (read : List ℕ → Answer Rec) where
               phases = omega (arith, c, v .0, w .0);
               comments = omega (arith, d, v .1, w .0);
               same =
-                  r .same ∙ turn-counted b at (f .inside) line p k q j (step-here s e ∙ h)
+                  r .same ∙ turn b at (f .inside) line p k (S.Counted q j) (step-here s e ∙ h)
                   ∙ ap (λ (x : ℕ). atMost (length b) (plus q j x (readLines read (line + 1) (ltb 0 q) (linesOf (drop x b))))) (sym (f .after));
             }
 
   -- ---- the first line, as the code comes to it
 
-  module _ (b : List ℕ) (low : length b ≤ 65536) (start end next : ℕ) (f : FoundAt b 0 start end next) (t : Bool) (e : t ≡ isHeader header (take (end - start) (drop start b))) where
+  module _ (b : List ℕ) (low : length b ≤ 65536) {start end next : ℕ} (f : FoundAt b 0 start end next) {t : Bool} (e : t ≡ isHeader header (take (end - start) (drop start b))) where
     header-here : (u : Bool) → t ≡ u → isHeader header (lineOf b 0) ≡ u
-    header-here u h = sym (ap (isHeader header) (line-is b 0 start end next f)) ∙ sym e ∙ h
+    header-here u h = sym (ap (isHeader header) (line-is f)) ∙ sym e ∙ h
 
     pub first-other : t ≡ false → B.Refused outOfPlace 0 1 ≡ readBlockBy header read b
     first-other h = sym (block-other b low (f .inside) (header-here false h))

@@ -1,4 +1,4 @@
--- Laws of a block's line by itself: its trailing blanks, its last byte, and each answer of a comment.
+-- Laws of a block's line by itself: its trailing blanks, its last byte, and its kind.
 use Prim.Native.Nat.{ℕ, zero, suc, _+_, _-_, _≤_, _<_}
 use mathlib.Core.Path.{_≡_, refl, sym, ap, _∙_}
 use mathlib.Core.Bool.{Bool, true, false}
@@ -6,16 +6,12 @@ use mathlib.Core.List.{List, [], _∷_, _++_}
 use native.Mathlib.Omega.{arith}
 use lib.Dec.{eqb}
 use lib.ListN.{length, take, drop, getD}
-use borrow.Author.Tests.{eq-eqb, ne-eqb, le-ltb, lt-ltb}
-use Rattle.columns.specs.Answer.{pick, ok, refusal, barredByte}
+use borrow.Author.Tests.{eq-eqb, ne-eqb}
+use Rattle.columns.specs.Answer.{pick}
 use Rattle.columns.specs.Bytes.{isNone}
-use Rattle.columns.specs.Answer.{wrongLength}
 use Rattle.columns.specs.Bytes.{sameBytes}
-use Rattle.formats.specs.Row.{lowestBarredByte}
-use Rattle.formats.specs.Block.{isHeader, kindOf, closing, comment, row, beforeTrimmed, trimEnd, lastByte, beginsComment, readComment, notClosed, outOfPlace}
-use Rattle.columns.specs.Table.{outcomeOf, over}
-use Rattle.columns.specs.declared.Outcome.the-variants as O
-use Rattle.columns.proofs.laws.Answers.{differs-not, differs-is}
+use Rattle.formats.specs.Block.{isHeader, kindOf, closing, comment, row, beforeTrimmed, trimEnd, lastByte, beginsComment}
+use Rattle.columns.specs.Table.{over}
 use Rattle.formats.proofs.laws.RowRecord.{over-part}
 
 -- ---- trailing blanks, one byte at the end at a time
@@ -65,53 +61,16 @@ last-after (b ∷ a ∷ s) x = last-after (a ∷ s) x
 pub last-of : (l : List ℕ) (i : ℕ) → 0 < i → i ≤ length l → lastByte (take i l) ≡ getD l (i - 1) 0
 last-of l i p h = ap lastByte (before l i p h) ∙ last-after (take (i - 1) l) (getD l (i - 1) 0)
 
--- ---- each answer of a comment, as the code comes to it
-
-module _ (seen : Bool) (l : List ℕ) where
-  pub comment-long : 1024 < length l → readComment seen l ≡ refusal wrongLength 0
-  unfolding readComment
-  comment-long h = rw (lt-ltb 1024 (length l) h)
-
-  module _ (h : length l ≤ 1024) where
-    pub comment-barred : (k : ℕ) → k ≡ lowestBarredByte l → (k ≡ 0 → ⊥) → readComment seen l ≡ refusal barredByte k
-    unfolding readComment
-    comment-barred k e n = rw (le-ltb 1024 (length l) h, differs-is (lowestBarredByte l) 0 (λ q. n (e ∙ q)), e)
-
-    module _ (e : lowestBarredByte l ≡ 0) where
-      pub comment-open : (lastByte (trimEnd l) ≡ 41 → ⊥) → readComment seen l ≡ refusal notClosed 0
-      unfolding readComment
-      comment-open n = rw (le-ltb 1024 (length l) h, differs-not (lowestBarredByte l) 0 e, differs-is (lastByte (trimEnd l)) 41 n)
-
-      pub comment-closed : lastByte (trimEnd l) ≡ 41 → readComment seen l ≡ pick seen (ok l) (refusal outOfPlace 0)
-      unfolding readComment
-      comment-closed q = rw (le-ltb 1024 (length l) h, differs-not (lowestBarredByte l) 0 e, differs-not (lastByte (trimEnd l)) 41 q)
-
-pub seen-told : (l : List ℕ) (seen : Bool) → seen ≡ true → outcomeOf (pick seen (ok l) (refusal outOfPlace 0)) ≡ O.Done
-seen-told l seen e = rw e
-
-pub unseen-told : (l : List ℕ) (seen : Bool) → seen ≡ false → outcomeOf (pick seen (ok l) (refusal outOfPlace 0)) ≡ O.Refused outOfPlace 0
-unseen-told l seen e = rw e
-
 -- ---- whether a line begins a comment, as the code comes to it
 
 pick-false : (t : Bool) → pick t false false ≡ false
 pick-false true = refl
 pick-false false = refl
 
-by-length : (l : List ℕ) → length l < 2 → beginsComment l ≡ false
-by-length [] h = refl
-by-length (b ∷ []) h = pick-false (eqb b 32)
-by-length (b ∷ x ∷ l) h = absurd (omega arith)
-
-module _ (l : List ℕ) where
-  pub begins-short : length l < 2 → beginsComment l ≡ false
-  begins-short h = by-length l h
-
-  pub begins-other : (getD l 0 0 ≡ 32 → ⊥) → beginsComment l ≡ false
-  begins-other n = rw (ne-eqb (getD l 0 0) 32 n)
-
-  pub begins-blank : getD l 0 0 ≡ 32 → beginsComment l ≡ eqb (getD l 1 0) 40
-  begins-blank e = rw (eq-eqb (getD l 0 0) 32 e)
+pub begins-short : (l : List ℕ) → length l < 2 → beginsComment l ≡ false
+begins-short [] h = refl
+begins-short (b ∷ []) h = pick-false (eqb b 32)
+begins-short (b ∷ x ∷ l) h = absurd (omega arith)
 
 -- ---- a line's kind, as the code comes to it
 

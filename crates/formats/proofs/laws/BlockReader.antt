@@ -1,5 +1,4 @@
--- Laws of the line at a place: none at the end of the block, a line that a newline ends, a last line without one; the place after
--- it and the lines from there on.
+-- Laws of the line at a place: the place after it and the lines from there on; what the reader of lines answers.
 use Prim.Native.Nat.{ℕ, _+_, _-_, _≤_, _<_}
 use mathlib.Core.Path.{_≡_, sym, ap, _∙_}
 use mathlib.Core.List.{List, _∷_}
@@ -15,17 +14,6 @@ use Rattle.formats.specs.Block.{withNewline}
 use Rattle.formats.specs.BlockReader.{lineOf, nextOf, pastNewline, lineAt}
 use Rattle.formats.proofs.laws.Lines.{lt-or-le, lines-next, lines-none, line-end-from, line-end-to}
 use Rattle.formats.specs.declared.block_reader.Line.the-variants as L
-use Rattle.formats.specs.declared.block_reader.Line.the-variants.{Found, End}
-
-module _ (s : List ℕ) (at : ℕ) where
-  pub line-at-none : length s ≤ at → End ≡ lineAt s at
-  line-at-none h = rw (le-leb (length s) at h)
-
-  pub line-at-ended : (e : ℕ) → at < length s → e ≡ lineEnd s at → e < length s → Found at e (e + 1) ≡ lineAt s at
-  line-at-ended e h q l = rw (q, lt-leb (length s) at h) (rw (lt-ltb (lineEnd s at) (length s) (rw q at l)))
-
-  pub line-at-last : (e : ℕ) → at < length s → e ≡ lineEnd s at → length s ≤ e → Found at e e ≡ lineAt s at
-  line-at-last e h q l = rw (q, lt-leb (length s) at h) (rw (le-ltb (lineEnd s at) (length s) (rw q at l)))
 
 -- ---- the place after a line
 
@@ -78,8 +66,8 @@ found-by b at start end next (inr p) e =
     let f : L.Found start end next ≡ L.End = e ∙ rw (le-leb (length b) at p) in
     let z : _≡_ {A = ℕ} 0 1 = cc in let y : ⊥ = omega arith in absurd y
 
-pub found-at : (b : List ℕ) (at start end next : ℕ) → L.Found start end next ≡ lineAt b at → FoundAt b at start end next
-found-at b at start end next = found-by b at start end next (lt-or-le at (length b))
+pub found-at : (b : List ℕ) (at : ℕ) {start end next : ℕ} → L.Found start end next ≡ lineAt b at → FoundAt b at start end next
+found-at b at {start} {end} {next} = found-by b at start end next (lt-or-le at (length b))
 
 end-by : (b : List ℕ) (at : ℕ) → (at < length b) ⊎ (length b ≤ at) → L.End ≡ lineAt b at → length b ≤ at
 end-by b at (inl p) e =
@@ -90,7 +78,7 @@ end-by b at (inr p) e = p
 pub end-at : (b : List ℕ) (at : ℕ) → L.End ≡ lineAt b at → length b ≤ at
 end-at b at = end-by b at (lt-or-le at (length b))
 
-module _ (b : List ℕ) (at start end next : ℕ) (f : FoundAt b at start end next) where
+module _ {b : List ℕ} {at start end next : ℕ} (f : FoundAt b at start end next) where
   pub line-is : take (end - start) (drop start b) ≡ lineOf b at
   line-is = rw (f .starts, f .ends)
 

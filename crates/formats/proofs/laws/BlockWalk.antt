@@ -12,7 +12,6 @@ use borrow.Author.Tests.{lt-ltb, le-ltb, lt-leb, le-leb}
 use Rattle.columns.specs.Answer.{Answer, ok, refusal}
 use Rattle.columns.specs.Column.{Rec}
 use Rattle.columns.specs.Table.{outcomeOf}
-use Rattle.columns.specs.Answer.{wrongLength}
 use Rattle.formats.specs.Lines.{linesOf, lineEnd}
 use Rattle.formats.specs.Block.{Kind, closing, comment, row, kindOf, isHeader, readComment, outOfPlace, plus, readLines, atMost, readBlockBy}
 use Rattle.formats.specs.BlockSteps.{counted, stepOf}
@@ -20,7 +19,7 @@ use Rattle.formats.specs.BlockReader.{lineOf, nextOf}
 use Rattle.formats.specs.BlockWalk.{noLine, headerLine, phaseLine, commentLine, nothing, known, headed, firstLine, lineAfter, nextLine, Met, metAs, phasesAfter, metIn, Walked, ended, closed, aComment, aPhase, countOf, WalkedBlock}
 use Rattle.formats.proofs.laws.Lines.{lt-or-le, lines-none}
 use Rattle.formats.proofs.laws.BlockReader.{FoundAt, line-is, lines-past, next-range}
-use Rattle.formats.proofs.laws.Block.{turn-end, turn-refused, turn-closing, turn-counted, block-long, block-none, block-other, block-lines}
+use Rattle.formats.proofs.laws.Block.{turn-end, turn, block-long, block-none, block-other, block-lines}
 use Rattle.formats.specs.declared.block_walk.BlockLine.{BlockLine}
 use Rattle.formats.specs.declared.block.Block.{Block}
 use Rattle.formats.specs.declared.block.Block.the-variants as B
@@ -28,71 +27,39 @@ use Rattle.formats.specs.declared.block.Step.the-variants as S
 
 -- ---- the first line, as the code comes to it
 
-module _ (header b : List ℕ) where
-  pub first-long : 65536 < length b → nothing wrongLength ≡ firstLine header b
+module _ (header b : List ℕ) (low : length b ≤ 65536) where
+  first-is : 0 < length b → firstLine header b ≡ headed header b
   unfolding firstLine
-  first-long h = sym (rw (lt-ltb 65536 (length b) h))
+  first-is h = rw (le-ltb 65536 (length b) low, lt-leb (length b) 0 h)
 
-  module _ (low : length b ≤ 65536) where
-    pub first-none : length b ≤ 0 → nothing outOfPlace ≡ firstLine header b
-    unfolding firstLine
-    first-none h = sym (rw (le-ltb 65536 (length b) low, le-leb (length b) 0 h))
+  module _ {start end next : ℕ} (f : FoundAt b 0 start end next) {t : Bool} (e : t ≡ isHeader header (take (end - start) (drop start b))) where
+    header-here : t ≡ isHeader header (lineOf b 0)
+    header-here = e ∙ ap (isHeader header) (line-is f)
 
-    first-is : 0 < length b → firstLine header b ≡ headed header b
-    unfolding firstLine
-    first-is h = rw (le-ltb 65536 (length b) low, lt-leb (length b) 0 h)
+    pub first-header : t ≡ true → record { kind = headerLine; phase = 0; end = end; next = next } ≡ firstLine header b
+    first-header h =
+        let u : isHeader header (lineOf b 0) ≡ true = sym header-here ∙ h in
+        sym (first-is (f .inside) ∙ rw (u, f .ends, f .after))
 
-    module _ (start end next : ℕ) (f : FoundAt b 0 start end next) (t : Bool) (e : t ≡ isHeader header (take (end - start) (drop start b))) where
-      header-here : t ≡ isHeader header (lineOf b 0)
-      header-here = e ∙ ap (isHeader header) (line-is b 0 start end next f)
-
-      pub first-header : t ≡ true → record { kind = headerLine; phase = 0; end = end; next = next } ≡ firstLine header b
-      first-header h =
-          let u : isHeader header (lineOf b 0) ≡ true = sym header-here ∙ h in
-          sym (first-is (f .inside) ∙ rw (u, f .ends, f .after))
-
-      pub first-other : t ≡ false → nothing outOfPlace ≡ firstLine header b
-      first-other h = let u : isHeader header (lineOf b 0) ≡ false = sym header-here ∙ h in sym (first-is (f .inside) ∙ rw u)
+    pub first-other : t ≡ false → nothing outOfPlace ≡ firstLine header b
+    first-other h = let u : isHeader header (lineOf b 0) ≡ false = sym header-here ∙ h in sym (first-is (f .inside) ∙ rw u)
 
 -- ---- the line after one that was met, as the code comes to it
 
 module _ (b : List ℕ) (at n : ℕ) where
-  pub after-many : 65534 < n → nothing noLine ≡ lineAfter b at n
-  after-many h = sym (rw (lt-ltb 65534 n h))
+  after-is : n ≤ 65534 → at < length b → lineAfter b at n ≡ known (kindOf (lineOf b at)) n (lineEnd b at) (nextOf b at)
+  after-is few h = rw (le-ltb 65534 n few, lt-leb (length b) at h)
 
-  module _ (few : n ≤ 65534) where
-    pub after-end : length b ≤ at → nothing noLine ≡ lineAfter b at n
-    after-end h = sym (rw (le-ltb 65534 n few, le-leb (length b) at h))
+  pub after-known : n ≤ 65534 → {start end next : ℕ} → FoundAt b at start end next → known (kindOf (take (end - start) (drop start b))) n end next ≡ lineAfter b at n
+  after-known few {start} {end} {next} f =
+      ap (λ (x : List ℕ). known (kindOf x) n end next) (line-is f) ∙ sym (after-is few (f .inside) ∙ rw (f .ends, f .after))
 
-    after-is : at < length b → lineAfter b at n ≡ known (kindOf (lineOf b at)) n (lineEnd b at) (nextOf b at)
-    after-is h = rw (le-ltb 65534 n few, lt-leb (length b) at h)
+  after-none : length b ≤ at → lineAfter b at n ≡ nothing noLine
+  after-none h = elim (lt-or-le 65534 n) [ inl p ↦ rw (lt-ltb 65534 n p) | inr p ↦ rw (le-ltb 65534 n p, le-leb (length b) at h) ]
 
-    pub after-known : (start end next : ℕ) → FoundAt b at start end next → known (kindOf (take (end - start) (drop start b))) n end next ≡ lineAfter b at n
-    after-known start end next f =
-        ap (λ (x : List ℕ). known (kindOf x) n end next) (line-is b at start end next f)
-        ∙ sym (after-is (f .inside) ∙ rw (f .ends, f .after))
-
-after-none : (b : List ℕ) (at n : ℕ) → length b ≤ at → lineAfter b at n ≡ nothing noLine
-after-none b at n h = elim (lt-or-le 65534 n) [ inl p ↦ sym (after-many b at n p) | inr p ↦ sym (after-end b at n p h) ]
-
-module _ (b : List ℕ) (x : BlockLine) where
-  pub next-long : 65536 < length b → nothing wrongLength ≡ nextLine b x
-  unfolding nextLine
-  next-long h = sym (rw (lt-ltb 65536 (length b) h))
-
-  module _ (low : length b ≤ 65536) where
-    pub next-before : x .kind < 40 → nothing noLine ≡ nextLine b x
-    unfolding nextLine
-    next-before h = sym (rw (le-ltb 65536 (length b) low, lt-ltb (x .kind) 40 h))
-
-    module _ (h : 40 ≤ x .kind) where
-      pub next-past : 42 < x .kind → nothing noLine ≡ nextLine b x
-      unfolding nextLine
-      next-past k = sym (rw (le-ltb 65536 (length b) low, le-ltb (x .kind) 40 h, lt-ltb 42 (x .kind) k))
-
-      pub next-there : x .kind ≤ 42 → lineAfter b (x .next) (x .phase) ≡ nextLine b x
-      unfolding nextLine
-      next-there k = sym (rw (le-ltb 65536 (length b) low, le-ltb (x .kind) 40 h, le-ltb 42 (x .kind) k))
+next-there : (b : List ℕ) (x : BlockLine) → length b ≤ 65536 → 40 ≤ x .kind → x .kind ≤ 42 → lineAfter b (x .next) (x .phase) ≡ nextLine b x
+unfolding nextLine
+next-there b x low h k = sym (rw (le-ltb 65536 (length b) low, le-ltb (x .kind) 40 h, le-ltb 42 (x .kind) k))
 
 -- ---- a walk of the lines from a place on
 
@@ -149,39 +116,35 @@ module _ (header : List ℕ) (read : List ℕ → Answer Rec) (b : List ℕ) (lo
       walk-closing : kindOf here ≡ closing → WalkedFrom b x k₀ p k u
       unfolding countOf
       walk-closing c =
-          let r = read-parts (sym (turn-closing header read b (x .next) h line (x .phase) k₀ (ap (λ (κ : Kind). stepOf read κ (x .phase) k₀ here) c)) ∙ e) in
+          let r = read-parts (sym (turn header read b (x .next) h line (x .phase) k₀ S.Closing (ap (λ (κ : Kind). stepOf read κ (x .phase) k₀ here) c)) ∙ e) in
           rw (met-is closing c) (record { walk = rw (← (r .1 .1)) (closed (next-is closing c)); phases = omega (arith, r .0); comments = omega (arith, r .1 .0) })
 
       walk-refused : (n j : ℕ) → stepOf read (kindOf here) (x .phase) k₀ here ≡ S.Refused n j → ⊥
-      walk-refused n j s = not-refused (sym (turn-refused header read b (x .next) h line (x .phase) k₀ n j s) ∙ e)
+      walk-refused n j s = not-refused (sym (turn header read b (x .next) h line (x .phase) k₀ (S.Refused n j) s) ∙ e)
 
       walk-next : (q j : ℕ) → stepOf read (kindOf here) (x .phase) k₀ here ≡ S.Counted q j → (y : BlockLine) → y .next ≡ nextOf b (x .next) → y .phase ≡ q → answerFrom y (line + 1) j ≡ B.Read p k u
-      walk-next q j s y n m = rw (n, m) (sym (turn-counted header read b (x .next) h line (x .phase) k₀ q j s) ∙ e)
+      walk-next q j s y n m = rw (n, m) (sym (turn header read b (x .next) h line (x .phase) k₀ (S.Counted q j) s) ∙ e)
 
-      walk-comment : kindOf here ≡ comment → (a : Answer (List ℕ)) → readComment (ltb 0 (x .phase)) here ≡ a → ((y : BlockLine) → Going b y → (i j : ℕ) → x .next < y .next → answerFrom y i j ≡ B.Read p k u → WalkedFrom b y j p k u) → WalkedFrom b x k₀ p k u
-      unfolding countOf
-      walk-comment c (refusal n j) a go = absurd (walk-refused n j (ap (λ (κ : Kind). stepOf read κ (x .phase) k₀ here) c ∙ ap (λ (z : Answer (List ℕ)). counted (outcomeOf z) (x .phase) (k₀ + 1)) a))
-      walk-comment c (ok v) a go =
-          let y : BlockLine = known comment (x .phase) (lineEnd b (x .next)) (nextOf b (x .next)) in
-          let s : stepOf read (kindOf here) (x .phase) k₀ here ≡ S.Counted (x .phase) (k₀ + 1) = ap (λ (κ : Kind). stepOf read κ (x .phase) k₀ here) c ∙ ap (λ (z : Answer (List ℕ)). counted (outcomeOf z) (x .phase) (k₀ + 1)) a in
+      abbrev Go : Type 0
+      Go = (y : BlockLine) → Going b y → (i j : ℕ) → x .next < y .next → answerFrom y i j ≡ B.Read p k u → WalkedFrom b y j p k u
+
+      -- a comment or a row, judged with q phase lines and j comments: the walk goes on from it, met as y
+      walk-on : {A : Type 0} (κ : Kind) → kindOf here ≡ κ → (a : Answer A) (q j : ℕ) → stepOf read κ (x .phase) k₀ here ≡ counted (outcomeOf a) q j → q ≤ x .phase + 1
+          → (y : BlockLine) → 40 ≤ y .kind → y .kind ≤ 42 → y .next ≡ nextOf b (x .next) → y .phase ≡ q → Go → WalkedFrom b y j p k u
+      walk-on κ c (refusal n i) q j s m y from to f d go = absurd (walk-refused n i (ap (λ (κ : Kind). stepOf read κ (x .phase) k₀ here) c ∙ s))
+      walk-on κ c (ok v) q j s m y from to f d go =
           let r = next-range b (x .next) h in
-          let w = go y (record { from = omega arith; to = omega arith; inside = r .1; few = omega (arith, r .0, g .few) }) (line + 1) (k₀ + 1) (r .0) (walk-next (x .phase) (k₀ + 1) s y refl refl) in
-          rw (met-is comment c) (record { walk = aComment (next-is comment c) refl refl (w .walk); phases = omega (arith, w .phases); comments = omega (arith, w .comments) })
+          go y (record { from = from; to = to; inside = rw f (r .1); few = omega (arith, r .0, g .few, f, d, m) }) (line + 1) j (rw f (r .0)) (walk-next q j (ap (λ (κ : Kind). stepOf read κ (x .phase) k₀ here) c ∙ s) y f d)
 
-      walk-row : kindOf here ≡ row → (a : Answer Rec) → read here ≡ a → ((y : BlockLine) → Going b y → (i j : ℕ) → x .next < y .next → answerFrom y i j ≡ B.Read p k u → WalkedFrom b y j p k u) → WalkedFrom b x k₀ p k u
+      walk-kind : (κ : Kind) → kindOf here ≡ κ → Go → WalkedFrom b x k₀ p k u
       unfolding countOf
-      walk-row c (refusal n j) a go = absurd (walk-refused n j (ap (λ (κ : Kind). stepOf read κ (x .phase) k₀ here) c ∙ ap (λ (z : Answer Rec). counted (outcomeOf z) (x .phase + 1) k₀) a))
-      walk-row c (ok v) a go =
-          let y : BlockLine = known row (x .phase) (lineEnd b (x .next)) (nextOf b (x .next)) in
-          let s : stepOf read (kindOf here) (x .phase) k₀ here ≡ S.Counted (x .phase + 1) k₀ = ap (λ (κ : Kind). stepOf read κ (x .phase) k₀ here) c ∙ ap (λ (z : Answer Rec). counted (outcomeOf z) (x .phase + 1) k₀) a in
-          let r = next-range b (x .next) h in
-          let w = go y (record { from = omega arith; to = omega arith; inside = r .1; few = omega (arith, r .0, g .few) }) (line + 1) k₀ (r .0) (walk-next (x .phase + 1) k₀ s y refl refl) in
-          rw (met-is row c) (record { walk = aPhase (next-is row c) refl refl (w .walk); phases = omega (arith, w .phases); comments = omega (arith, w .comments) })
-
-      walk-kind : (κ : Kind) → kindOf here ≡ κ → ((y : BlockLine) → Going b y → (i j : ℕ) → x .next < y .next → answerFrom y i j ≡ B.Read p k u → WalkedFrom b y j p k u) → WalkedFrom b x k₀ p k u
       walk-kind closing c go = walk-closing c
-      walk-kind comment c go = walk-comment c (readComment (ltb 0 (x .phase)) here) refl go
-      walk-kind row c go = walk-row c (read here) refl go
+      walk-kind comment c go =
+          let w = walk-on comment c (readComment (ltb 0 (x .phase)) here) (x .phase) (k₀ + 1) refl (omega arith) (known comment (x .phase) (lineEnd b (x .next)) (nextOf b (x .next))) (omega arith) (omega arith) refl refl go in
+          rw (met-is comment c) (record { walk = aComment (next-is comment c) refl refl (w .walk); phases = omega (arith, w .phases); comments = omega (arith, w .comments) })
+      walk-kind row c go =
+          let w = walk-on row c (read here) (x .phase + 1) k₀ refl (omega arith) (known row (x .phase) (lineEnd b (x .next)) (nextOf b (x .next))) (omega arith) (omega arith) refl refl go in
+          rw (met-is row c) (record { walk = aPhase (next-is row c) refl refl (w .walk); phases = omega (arith, w .phases); comments = omega (arith, w .comments) })
 
   walk-from : (fuel : ℕ) (x : BlockLine) → Going b x → (line k₀ p k u : ℕ) → length b ≤ x .next + fuel → answerFrom x line k₀ ≡ B.Read p k u → WalkedFrom b x k₀ p k u
   walk-from zero x g line k₀ p k u m e = walk-end x g line k₀ p k u e (omega arith)

@@ -14,7 +14,8 @@ use Rattle.columns.specs.Table.{over, placed, laid}
 use Rattle.formats.specs.declared.Reply.{Reply}
 use Rattle.formats.specs.Record.{replyOf, Replied}
 use Rattle.formats.specs.Row.{RowFormat, writeRowFrom}
-use Rattle.formats.specs.BlockWriting.{ended, writeHeader, headerCall, recordCall, roomFrom, bytesIn, fromPlace, laidFrom, RepliedFrom}
+use Rattle.formats.specs.BlockWriting.{ended, writeHeader, headerCall, recordCall, roomFrom, fromPlace, laidFrom, RepliedFrom}
+use Rattle.formats.specs.Numbers.{replyLength}
 use Rattle.columns.proofs.laws.Places.{set-over}
 use Rattle.formats.proofs.laws.RowRecord.{over-part}
 use Rattle.formats.proofs.laws.RowRecordBack.{row-written}
@@ -45,7 +46,7 @@ over-mid at k ys out h =
     sym (drop-append-le (length ys) m (drop k (drop at out)) h) ∙ ap (drop (length ys)) (take-append-drop k (drop at out)) in
     rw (append-assoc ys (drop (length ys) m) (drop k (drop at out)), e)
 
-laid-in : (a : Answer (List ℕ)) (part to : List ℕ) → to ≡ laid a part → length to ≡ length part → bytesIn (replyOf a) ≤ length part
+laid-in : (a : Answer (List ℕ)) (part to : List ℕ) → to ≡ laid a part → length to ≡ length part → replyLength (replyOf a) ≤ length part
 laid-in (ok ys) part to e s = omega (arith, ap length e ∙ length-append ys (drop (length ys) part))
 laid-in (refusal n k) part to e s = omega arith
 
@@ -54,7 +55,7 @@ part-laid at k (ok ys) out to e s = ap (putMid at k out) e ∙ over-mid at k ys 
 part-laid at k (refusal n j) out to e s = ap (putMid at k out) e ∙ put-same at k out
 
 module _ (at k : ℕ) (a : Answer (List ℕ)) (r : Reply) (out to : List ℕ) (w : Replied a r (midOf at k out) to) (s : length to ≡ length (midOf at k out)) where
-  reply-in : bytesIn r ≤ length (midOf at k out)
+  reply-in : replyLength r ≤ length (midOf at k out)
   reply-in = rw (w .answer) (laid-in a (midOf at k out) to (w .bytes) s)
 
   -- what was written over the first bytes of the part was written from its place on
@@ -129,7 +130,7 @@ refused-past at (refusal n k) r out to f w s = record { answer = w .answer; byte
 
 module _ (F : RowFormat) (f : Fits (F .columns)) where
   no-room : (from ys : List ℕ) → writeRowFrom F from 0 ≡ ok ys → ⊥
-  no-room from ys e = omega (arith, row-written F f from ys 0 e .fits, filled-wide (F .columns) (f .fine) (f .filled))
+  no-room from ys e = omega (arith, row-written F f from ys 0 e .fits, filled-wide (F .columns) (f .sound .fine) (f .filled))
 
   pub record-past : (from : List ℕ) (at : ℕ) (r : Reply) (out to : List ℕ) → length out ≤ at → Replied (writeRowFrom F from 0) r (midOf 0 0 out) to → length to ≡ 0 → RepliedFrom at (recordCall F from at (length out)) r out (putMid 0 0 out to)
   unfolding recordCall
@@ -143,7 +144,7 @@ module _ (write : ℕ → Answer (List ℕ)) (at : ℕ) (out : List ℕ) (h : at
   part-size : length (midOf at (length out - at) out) ≡ length out - at
   part-size = mid-len at (length out) out (omega arith)
 
-  pub call-fits : at + bytesIn reply ≤ length out
+  pub call-fits : at + replyLength reply ≤ length out
   call-fits = omega (arith, reply-in at (length out - at) _ reply out to w s, part-size)
 
   pub call-replied : (r : Reply) → r ≡ fromPlace at reply → RepliedFrom at (ended (write (roomFrom at (length out)))) r out (putMid at (length out - at) out to)

@@ -180,7 +180,7 @@ module _ (F : RowFormat) (f : Fits (F .columns)) where
       let room = roomFrom at (length out) in
       let c = called (writeRowFrom F r room) at next out mid w in
       let p = row-written F f r (c .line) room (c .is) in
-      let k : at + (length (c .line) + 1) ≤ length out = omega (arith, p .fits, p .size, filled-wide (F .columns) (f .fine) (f .filled)) in
+      let k : at + (length (c .line) + 1) ≤ length out = omega (arith, p .fits, p .size, filled-wide (F .columns) (f .sound .fine) (f .filled)) in
       let q = records-laid (next-in c k) ws in
       let m : (widths (F .columns) + 1) * suc (length rs) ≡ (widths (F .columns) + 1) * length rs + (widths (F .columns) + 1) = mul-suc (widths (F .columns) + 1) (length rs) in
       record {

@@ -1,125 +1,115 @@
 -- Each answer of a CUBE line, as the code comes to it.
-use mathlib.Core.Path.{_≡_, refl, sym, ap, _∙_}
+use mathlib.Core.Path.{_≡_, refl, ap, _∙_}
 use mathlib.Core.Bool.{Bool, true, false}
 use mathlib.Core.List.{List, [], _++_}
-use Prim.Native.Nat.{ℕ, _+_, _-_, _≤_, _<_}
+use Prim.Native.Nat.{ℕ, _+_, _-_, _≤_}
 use native.Mathlib.Omega.{arith}
 use lib.ListN.{length, take, drop, getD, replicate, length-drop, length-replicate}
 use lib.IntN.{ℤ, pos}
 use lib.Dec.{ltb}
-use borrow.Author.Tests.{ne-eqb, le-ltb, lt-ltb}
+use borrow.Author.Tests.{le-ltb, ltb-false}
 use lib.Seq.{slice, length-take-le, take-all}
-use Rattle.formats.specs.declared.cube.LineRead.{LineRead}
-use Rattle.columns.specs.Answer.{pick, Answer, ok, refusal, barredByte, wrongLength}
+use Rattle.columns.specs.Answer.{pick, Answer, ok, refusal, unless, differs, barredByte, wrongLength}
 use Rattle.columns.specs.Column.{Rec}
 use Rattle.columns.specs.Reading.{readColumns}
 use Rattle.columns.specs.Table.{placed}
 use Rattle.formats.specs.Check.{checkCharacter}
-use Rattle.formats.specs.Cube.{eventColumns, delete, eventKind, deleteKind, asEvent, lowestBarred, isType, readEvent, readDelete, readLink, readLine, lineOf, wrongType, wrongCheck, Message}
-use Rattle.columns.proofs.laws.Answers.{passed, differs-not, differs-is}
+use Rattle.formats.specs.Cube.{eventColumns, delete, eventKind, deleteKind, asEvent, barredTo, clearTo, lowestBarred, readText, deleteParts, isType, readEvent, readDelete, readLink, readLine, lineOf, wrongType, wrongCheck, Message}
+use Rattle.columns.proofs.laws.Answers.{passed, differs-not, differs-same}
 use Rattle.columns.proofs.laws.Reader.{Whole}
 use Rattle.columns.proofs.laws.Bytes.{slice-is}
 use Rattle.columns.proofs.laws.Places.{placed-placed}
 use Rattle.formats.specs.declared.cube.Read.the-variants as R
 
--- what neither answer is, the one that a test picks is not
-pub pick-not : (f : Answer Message → Bool) (t : Bool) (a b : Answer Message) → f a ≡ false → f b ≡ false → f (pick t a b) ≡ false
-pick-not f true a b p q = p
-pick-not f false a b p q = q
+-- ---- a DE or an LI line
+
+module _ (low high last : ℕ) (parts : List ℕ → Answer Message) (l : List ℕ) where
+  pub record TextRead (m : Message) : Type 0 where
+    pub long : low ≤ length l
+    pub short : length l ≤ high
+    pub clear : barredTo last l ≡ 0
+    pub rest : parts l ≡ ok m
+
+  pub text-read : (m : Message) → readText low high last parts l ≡ ok m → TextRead m
+  text-read m e =
+      let p = passed (ltb (length l) low) wrongLength 0 (unless (ltb high (length l)) wrongLength 0 (clearTo last l (parts l))) m e in
+      let q = passed (ltb high (length l)) wrongLength 0 (clearTo last l (parts l)) m (p .1) in
+      let r = passed (differs (barredTo last l) 0) barredByte (barredTo last l) (parts l) m (q .1) in
+      record {
+        long = ltb-false (length l) low (p .0);
+        short = ltb-false high (length l) (q .0);
+        clear = differs-same (barredTo last l) 0 (r .0);
+        rest = r .1;
+      }
+
+  pub text-clear : low ≤ length l → length l ≤ high → barredTo last l ≡ 0 → readText low high last parts l ≡ parts l
+  text-clear h k b = rw (le-ltb _ _ h, le-ltb _ _ k, differs-not (barredTo last l) 0 b)
 
 module _ (l : List ℕ) where
+  pub delete-read : 13 ≤ length l → length l ≤ 80 → lowestBarred l ≡ 0 → readDelete l ≡ ok (delete (take 11 (drop 2 l)) (drop 13 l))
+  unfolding readDelete
+  delete-read h k b = text-clear 13 80 13 deleteParts l h k b
+
   -- ---- an E line
 
-  pub event-length : (length l ≡ 80 → ⊥) → readEvent l ≡ refusal wrongLength 0
+  pub event-columns : length l ≡ 80 → lowestBarred (take 79 l) ≡ 0 → getD l 79 0 ≡ checkCharacter (take 79 l) → readEvent l ≡ asEvent (readColumns eventColumns [] 2 (drop 2 l))
   unfolding readEvent
-  event-length n = rw (differs-is (length l) 80 n)
+  event-columns n b c = rw (differs-not (length l) 80 n, differs-not (lowestBarred (take 79 l)) 0 b, differs-not (getD l 79 0) (checkCharacter (take 79 l)) c)
 
-  module _ (n : length l ≡ 80) where
-    pub event-barred : (lowestBarred (take 79 l) ≡ 0 → ⊥) → readEvent l ≡ refusal barredByte (lowestBarred (take 79 l))
-    unfolding readEvent
-    event-barred b = rw (differs-not (length l) 80 n, differs-is (lowestBarred (take 79 l)) 0 b)
+  -- what a line that is read as one says
+  pub record EventRead (m : Message) : Type 0 where
+    pub size : length l ≡ 80
+    pub clear : lowestBarred (take 79 l) ≡ 0
+    pub check : getD l 79 0 ≡ checkCharacter (take 79 l)
+    pub columns : asEvent (readColumns eventColumns [] 2 (drop 2 l)) ≡ ok m
 
-    module _ (b : lowestBarred (take 79 l) ≡ 0) where
-      pub event-check : (getD l 79 0 ≡ checkCharacter (take 79 l) → ⊥) → readEvent l ≡ refusal wrongCheck 80
-      unfolding readEvent
-      event-check c = rw (differs-not (length l) 80 n, differs-not (lowestBarred (take 79 l)) 0 b, differs-is (getD l 79 0) (checkCharacter (take 79 l)) c)
-
-      pub event-columns : getD l 79 0 ≡ checkCharacter (take 79 l) → readEvent l ≡ asEvent (readColumns eventColumns [] 2 (drop 2 l))
-      unfolding readEvent
-      event-columns c = rw (differs-not (length l) 80 n, differs-not (lowestBarred (take 79 l)) 0 b, differs-not (getD l 79 0) (checkCharacter (take 79 l)) c)
-
-  -- ---- a DE line
-
-  pub delete-short : length l < 13 → readDelete l ≡ refusal wrongLength 0
-  unfolding readDelete
-  delete-short h = rw (lt-ltb _ _ h)
-
-  module _ (h : 13 ≤ length l) where
-    pub delete-long : 80 < length l → readDelete l ≡ refusal wrongLength 0
-    unfolding readDelete
-    delete-long k = rw (le-ltb _ _ h, lt-ltb _ _ k)
-
-    module _ (k : length l ≤ 80) where
-      pub delete-barred : (lowestBarred l ≡ 0 → ⊥) → readDelete l ≡ refusal barredByte (lowestBarred l)
-      unfolding readDelete
-      delete-barred b = rw (le-ltb _ _ h, le-ltb _ _ k, differs-is (lowestBarred l) 0 b)
-
-      pub delete-read : lowestBarred l ≡ 0 → readDelete l ≡ ok (delete (take 11 (drop 2 l)) (drop 13 l))
-      unfolding readDelete
-      delete-read b = rw (le-ltb _ _ h, le-ltb _ _ k, differs-not (lowestBarred l) 0 b)
+  pub event-read : (m : Message) → readEvent l ≡ ok m → EventRead m
+  unfolding readEvent
+  event-read m e =
+      let columns = asEvent (readColumns eventColumns [] 2 (drop 2 l)) in
+      let checked = unless (differs (getD l 79 0) (checkCharacter (take 79 l))) wrongCheck 80 columns in
+      let p = passed (differs (length l) 80) wrongLength 0 (clearTo 13 (take 79 l) checked) m e in
+      let q = passed (differs (lowestBarred (take 79 l)) 0) barredByte (lowestBarred (take 79 l)) checked m (p .1) in
+      let r = passed (differs (getD l 79 0) (checkCharacter (take 79 l))) wrongCheck 80 columns m (q .1) in
+      record {
+        size = differs-same (length l) 80 (p .0);
+        clear = differs-same (lowestBarred (take 79 l)) 0 (q .0);
+        check = differs-same (getD l 79 0) (checkCharacter (take 79 l)) (r .0);
+        columns = r .1;
+      }
 
   -- ---- any kind
-
-  pub line-short : length l < 2 → readLine l ≡ refusal wrongLength 0
-  unfolding readLine
-  line-short h = rw (lt-ltb _ _ h)
 
   module _ (h : 2 ≤ length l) where
     pub line-event : getD l 0 0 ≡ 69 → getD l 1 0 ≡ 32 → readLine l ≡ readEvent l
     unfolding readLine
     line-event a b = rw (le-ltb _ _ h, a, b)
 
-    pub line-no-event : getD l 0 0 ≡ 69 → (getD l 1 0 ≡ 32 → ⊥) → readLine l ≡ refusal wrongType 1
-    unfolding readLine
-    line-no-event a b = rw (le-ltb _ _ h, a, ne-eqb _ _ b)
-
     pub line-delete : getD l 0 0 ≡ 68 → getD l 1 0 ≡ 69 → readLine l ≡ readDelete l
     unfolding readLine
     line-delete a b = rw (le-ltb _ _ h, a, b)
-
-    pub line-no-delete : getD l 0 0 ≡ 68 → (getD l 1 0 ≡ 69 → ⊥) → readLine l ≡ refusal wrongType 1
-    unfolding readLine
-    line-no-delete a b = rw (le-ltb _ _ h, a, ne-eqb _ _ b)
 
     pub line-link : getD l 0 0 ≡ 76 → getD l 1 0 ≡ 73 → readLine l ≡ readLink l
     unfolding readLine
     line-link a b = rw (le-ltb _ _ h, a, b)
 
-    pub line-no-link : getD l 0 0 ≡ 76 → (getD l 1 0 ≡ 73 → ⊥) → readLine l ≡ refusal wrongType 1
-    unfolding readLine
-    line-no-link a b = rw (le-ltb _ _ h, a, ne-eqb _ _ b)
-
-    pub line-other : (getD l 0 0 ≡ 69 → ⊥) → (getD l 0 0 ≡ 68 → ⊥) → (getD l 0 0 ≡ 76 → ⊥) → readLine l ≡ refusal wrongType 1
-    unfolding readLine
-    line-other a b c = rw (le-ltb _ _ h, ne-eqb (getD l 0 0) 69 a, ne-eqb (getD l 0 0) 68 b, ne-eqb (getD l 0 0) 76 c)
-
 -- ---- a line that is read, by its type
 
 pub data Came (l : List ℕ) (m : Message) : Type 0 where
-  by-event : readEvent l ≡ ok m → Came l m
+  by-event : isType 69 32 l ≡ true → readEvent l ≡ ok m → Came l m
   by-delete : readDelete l ≡ ok m → Came l m
   by-link : isType 76 73 l ≡ true → readLink l ≡ ok m → Came l m
 
-type-came : (s t u : Bool) (l : List ℕ) (m : Message) → isType 76 73 l ≡ u → pick s (readEvent l) (pick t (readDelete l) (pick u (readLink l) (refusal wrongType 1))) ≡ ok m → Came l m
-type-came true t u l m h e = by-event e
-type-came false true u l m h e = by-delete e
-type-came false false true l m h e = by-link h e
-type-came false false false l m h e = let z : _≡_ {A = ℕ} 0 1 = cc in let y : ⊥ = omega arith in absurd y
+type-came : (s t u : Bool) (l : List ℕ) (m : Message) → isType 69 32 l ≡ s → isType 76 73 l ≡ u → pick s (readEvent l) (pick t (readDelete l) (pick u (readLink l) (refusal wrongType 1))) ≡ ok m → Came l m
+type-came true t u l m g h e = by-event g e
+type-came false true u l m g h e = by-delete e
+type-came false false true l m g h e = by-link h e
+type-came false false false l m g h e = let z : _≡_ {A = ℕ} 0 1 = cc in let y : ⊥ = omega arith in absurd y
 
 pub came : (l : List ℕ) (m : Message) → readLine l ≡ ok m → Came l m
 unfolding readLine
 came l m e =
-    type-came (isType 69 32 l) (isType 68 69 l) (isType 76 73 l) l m refl
+    type-came (isType 69 32 l) (isType 68 69 l) (isType 76 73 l) l m refl refl
     (passed (ltb (length l) 2) wrongLength 0 (pick (isType 69 32 l) (readEvent l) (pick (isType 68 69 l) (readDelete l) (pick (isType 76 73 l) (readLink l) (refusal wrongType 1)))) m e .1)
 
 -- ---- what the code returns
@@ -142,7 +132,3 @@ delete-is l text₁ text₂ at h k z p q =
     ∙ ap (placed 11 (drop 13 l)) (p ∙ ap (λ (x : List ℕ). placed 0 x (replicate 250 0)) a)
     ∙ placed-placed 0 11 (take 11 (drop 2 l)) (drop 13 l) (replicate 250 0) (omega (arith, n)) (omega (arith, length-drop 13 l, length-replicate {A = ℕ} 250 0)) in
     rw (t, length-drop 13 l)
-
--- a refusal by the lowest barred byte that the code found
-pub barred-is : (a : Answer Message) (k b : ℕ) (r : LineRead) → k ≡ b → r ≡ lineOf (refusal barredByte k) → a ≡ refusal barredByte b → r ≡ lineOf a
-barred-is a k b r e p q = p ∙ ap lineOf (ap (refusal barredByte) e ∙ sym q)

@@ -9,17 +9,18 @@ use borrow.Author.Tests.{ltb-false, eqb-true}
 use lib.Seq.{take-at, drop-at, getD-at, length-take-le, drop-drop, take-add, take-take}
 use Rattle.columns.specs.Answer.{Answer, ok, refusal, barredByte, tooShort, unless, differs, wrongLength}
 use Rattle.columns.specs.Bytes.{barred}
-use Rattle.columns.specs.Column.{Slot, good, widths, allSlots, allTexts, bracketsIn, Rec}
+use Rattle.columns.specs.Column.{Slot, Rec}
 use Rattle.columns.specs.Writing.{writeColumns}
 use Rattle.formats.specs.Check.{checkCharacter}
 use Rattle.formats.specs.Cube.{eventColumns, event, delete, link, sealed, sealedAnswer, lowestBarred, readLine, asEvent, writeMessage, Message, readEvent, readDelete, wrongCheck}
 use Rattle.columns.proofs.laws.Columns.{Line, columns-back, columns-more-bytes}
-use Rattle.columns.proofs.laws.Stretch.{clean-line, barred-split, line-clean}
+use Rattle.columns.proofs.laws.Stretch.{clean-line, barred-split, barred-cons, line-clean}
 use Rattle.columns.proofs.laws.Answers.{passed, differs-same}
 use Rattle.columns.proofs.laws.Tests.{both-true}
 use Rattle.formats.proofs.laws.Cube.{line-event, event-columns, line-delete, delete-read, Came, by-event, by-delete, by-link, came}
 use Rattle.columns.specs.Reading.{readColumns}
 use Rattle.columns.proofs.laws.Accepted.{columns-accepted}
+use Rattle.formats.proofs.laws.EventColumns.{event-sound}
 use Rattle.formats.proofs.laws.CubeWriting.{put-event, put-delete}
 use Rattle.formats.proofs.laws.LinkBack.{ReadLink, link-read, parts-inside, link-accepted}
 use Rattle.formats.proofs.laws.Link.{text-length}
@@ -39,12 +40,11 @@ sealed-of (refusal n k) ys e = let z : _≡_ {A = ℕ} 0 1 = cc in let y : ⊥ =
 
 module _ (ns : List Slot) (t zs : List ℕ) (a : length ns ≡ 19) (b : length t ≡ 13) (e : writeColumns eventColumns [] 2 ns t ≡ ok zs) where
   event-line : Line eventColumns [] 2 ns t zs
-  unfolding good allSlots allTexts
-  event-line = columns-back eventColumns [] 2 ns t zs tt a b e
+  event-line =
+      columns-back eventColumns [] 2 ns t zs (event-sound .fine) (a ∙ sym (event-sound .numbers)) (b ∙ sym (event-sound .chars)) e
 
   event-width : length zs ≡ 77
-  unfolding widths
-  event-width = event-line .size
+  event-width = event-line .size ∙ event-sound .wide
 
   head-length : length (69 ∷ 32 ∷ zs) ≡ 79
   head-length = omega (arith, event-width)
@@ -53,18 +53,20 @@ module _ (ns : List Slot) (t zs : List ℕ) (a : length ns ≡ 19) (b : length t
   head-is = take-at (69 ∷ 32 ∷ zs) (checkCharacter (69 ∷ 32 ∷ zs) ∷ []) 79 head-length
 
   event-clear : lowestBarred (take 79 (sealed zs)) ≡ 0
-  unfolding barred widths bracketsIn
-  event-clear = ap (barred 3 13 1) head-is ∙ clean-line 3 13 eventColumns 2 zs tt (event-line .size) (event-line .clean)
+  event-clear =
+      ap (barred 3 13 1) head-is
+      ∙ barred-cons 3 13 1 69 (32 ∷ zs) refl
+      ∙ barred-cons 3 13 2 32 zs refl
+      ∙ clean-line 3 13 eventColumns 2 zs (event-sound .brackets) (event-line .size) (event-line .clean)
 
   event-sealed : readLine (sealed zs) ≡ ok (event ns t)
-  unfolding widths
   event-sealed =
       let n : length (sealed zs) ≡ 80 = omega (arith, head-length, length-append (69 ∷ 32 ∷ zs) (checkCharacter (69 ∷ 32 ∷ zs) ∷ [])) in
       let c : getD (sealed zs) 79 0 ≡ checkCharacter (take 79 (sealed zs)) =
       getD-at (69 ∷ 32 ∷ zs) (checkCharacter (69 ∷ 32 ∷ zs)) [] 0 79 head-length ∙ ap checkCharacter (sym head-is) in
       line-event (sealed zs) (omega arith) refl refl
       ∙ event-columns (sealed zs) n event-clear c
-      ∙ ap asEvent (columns-more-bytes eventColumns [] 2 zs (checkCharacter (69 ∷ 32 ∷ zs) ∷ []) (omega (arith, event-width)) ∙ event-line .back)
+      ∙ ap asEvent (columns-more-bytes eventColumns [] 2 zs (checkCharacter (69 ∷ 32 ∷ zs) ∷ []) (omega (arith, event-width, event-sound .wide)) ∙ event-line .back)
 
 pub event-back : (ns : List Slot) (t ys : List ℕ) (room : ℕ) → length ns ≡ 19 → length t ≡ 13 → writeMessage (event ns t) room ≡ ok ys → readLine ys ≡ ok (event ns t)
 unfolding writeMessage
@@ -98,7 +100,7 @@ delete-low-size names t ys room n e =
     omega (arith, delete-size names t ys room n e, ltb-false 67 (length t) (p .0))
 
 pub delete-back : (names t ys : List ℕ) (room : ℕ) → length names ≡ 11 → writeMessage (delete names t) room ≡ ok ys → readLine ys ≡ ok (delete names t)
-unfolding writeMessage barred
+unfolding writeMessage
 delete-back names t ys room n e =
     let l : List ℕ = 68 ∷ 69 ∷ (names ++ t) in
     let p = passed (ltb 67 (length t)) wrongLength 0 (unless (ltb room (13 + length t)) tooShort 0 (unless (differs (barred 3 13 3 (names ++ t)) 0) barredByte (barred 3 13 3 (names ++ t)) (ok (68 ∷ 69 ∷ (names ++ t))))) ys e in
@@ -109,7 +111,7 @@ delete-back names t ys room n e =
     let f : length t ≤ 67 = ltb-false 67 (length t) (p .0) in
     ap readLine (sym i)
     ∙ line-delete (68 ∷ 69 ∷ (names ++ t)) (omega arith) refl refl
-    ∙ delete-read (68 ∷ 69 ∷ (names ++ t)) (omega (arith, m)) (omega (arith, m, f)) (differs-same (barred 3 13 3 (names ++ t)) 0 (r .0))
+    ∙ delete-read (68 ∷ 69 ∷ (names ++ t)) (omega (arith, m)) (omega (arith, m, f)) (barred-cons 3 13 1 68 (69 ∷ (names ++ t)) refl ∙ barred-cons 3 13 2 69 (names ++ t) refl ∙ differs-same (barred 3 13 3 (names ++ t)) 0 (r .0))
     ∙ ap ok (rw (take-at names t 11 n, drop-at names t 11 n))
 
 -- ---- what was read is accepted
@@ -143,7 +145,7 @@ after-type l s h e b =
     ap (λ (k : ℕ). barred 3 13 k s) (sym z) ∙ p
 
 event-accepted : (l : List ℕ) (m : Message) → readEvent l ≡ ok m → Accepts m
-unfolding readEvent good widths allSlots allTexts bracketsIn
+unfolding readEvent
 event-accepted l m e =
     let p = passed (differs (length l) 80) wrongLength 0 (unless (differs (lowestBarred (take 79 l)) 0) barredByte (lowestBarred (take 79 l)) (unless (differs (getD l 79 0) (checkCharacter (take 79 l))) wrongCheck 80 (asEvent (readColumns eventColumns [] 2 (drop 2 l))))) m e in
     let q = passed (differs (lowestBarred (take 79 l)) 0) barredByte (lowestBarred (take 79 l)) (unless (differs (getD l 79 0) (checkCharacter (take 79 l))) wrongCheck 80 (asEvent (readColumns eventColumns [] 2 (drop 2 l)))) m (p .1) in
@@ -155,9 +157,9 @@ event-accepted l m e =
     let c : take 2 (take 79 l) ++ take 77 (drop 2 l) ≡ take 79 l = ap (λ (x : List ℕ). x ++ take 77 (drop 2 l)) (take-take 2 79 l (omega arith)) ∙ sym (take-add 2 77 l) in
     let b = after-type (take 79 l) (take 77 (drop 2 l)) (omega arith) c (differs-same (lowestBarred (take 79 l)) 0 (q .0)) in
     let d : readColumns eventColumns [] 2 (take 77 (drop 2 l)) ≡ ok (w .value) =
-    sym (columns-more-bytes eventColumns [] 2 (take 77 (drop 2 l)) (drop 77 (drop 2 l)) (omega arith)) ∙ ap (readColumns eventColumns [] 2) (take-append-drop 77 (drop 2 l)) ∙ w .read in
-    let x = columns-accepted eventColumns [] 2 (take 77 (drop 2 l)) (w .value) tt (omega arith) (line-clean 3 13 eventColumns 2 (take 77 (drop 2 l)) tt k b) d in
-    subst Accepts (w .is) (record { bytes = sealed (x .bytes); is = put-event (w .value .numbers) (w .value .chars) 255 (omega arith) (x .bytes) (x .written); sized = (x .numbers, x .chars) })
+    sym (columns-more-bytes eventColumns [] 2 (take 77 (drop 2 l)) (drop 77 (drop 2 l)) (omega (arith, event-sound .wide))) ∙ ap (readColumns eventColumns [] 2) (take-append-drop 77 (drop 2 l)) ∙ w .read in
+    let x = columns-accepted eventColumns [] 2 (take 77 (drop 2 l)) (w .value) (event-sound .fine) (omega (arith, event-sound .wide)) (line-clean 3 13 eventColumns 2 (take 77 (drop 2 l)) (event-sound .brackets) (k ∙ sym (event-sound .wide)) b) d in
+    subst Accepts (w .is) (record { bytes = sealed (x .bytes); is = put-event (w .value .numbers) (w .value .chars) 255 (omega arith) (x .bytes) (x .written); sized = (x .numbers ∙ event-sound .numbers, x .chars ∙ event-sound .chars) })
 
 delete-accepted : (l : List ℕ) (m : Message) → readDelete l ≡ ok m → Accepts m
 unfolding readDelete
@@ -182,7 +184,7 @@ link-sized l w =
     (length-take-le 12 (drop 2 l) (omega (arith, length-drop 2 l, w .long)), omega (arith, parts-inside l w, text-length l, w .short))
 
 by-type : (l : List ℕ) (m : Message) → Came l m → Accepts m
-by-type l m (by-event e) = event-accepted l m e
+by-type l m (by-event t e) = event-accepted l m e
 by-type l m (by-delete e) = delete-accepted l m e
 by-type l m (by-link t e) =
     let w = link-read l m e in

@@ -5,20 +5,16 @@ use mathlib.Core.List.{List, [], _++_}
 use Prim.Native.Nat.{ℕ, _+_, _≤_}
 use native.Mathlib.Omega.{arith}
 use lib.ListN.{length, take, drop, getD, length-drop, take-append-drop}
-use lib.Dec.{ltb}
 use lib.Seq.{length-take-le, take-take, take-add, getD-take, getD-drop}
-use borrow.Author.Tests.{ltb-false, le-leb}
-use Rattle.columns.specs.Answer.{Answer, ok, refusal, barredByte, unless, differs, wrongLength}
+use borrow.Author.Tests.{le-leb}
+use Rattle.columns.specs.Answer.{Answer, ok, refusal}
 use Rattle.columns.specs.Bytes.{barred, inside}
 use Rattle.columns.specs.Column.{Rec}
 use Rattle.columns.specs.Reading.{readColumns}
-use Rattle.columns.proofs.laws.Answers.{passed, differs-same}
 use Rattle.columns.proofs.laws.Clear.{Clear, clear-take, clear-none, none-clear}
 use Rattle.columns.proofs.laws.Stretch.{barred-split}
-use Rattle.formats.specs.Check.{checkCharacter}
-use Rattle.formats.specs.Link.{typeOf, addressOf, textOf}
-use Rattle.formats.specs.Cube.{Message, event, delete, link, eventColumns, asEvent, lowestBarred, readEvent, readDelete, readLink, readLine, wrongCheck}
-use Rattle.formats.proofs.laws.Cube.{Came, by-event, by-delete, by-link, came}
+use Rattle.formats.specs.Cube.{Message, event, delete, link, eventColumns, asEvent, deleteParts, readEvent, readDelete, readLink, readLine}
+use Rattle.formats.proofs.laws.Cube.{text-read, event-read, Came, by-event, by-delete, by-link, came}
 use Rattle.formats.proofs.laws.LinkBack.{ReadLink, link-read}
 use Rattle.formats.proofs.laws.CubeBack.{after-type}
 
@@ -38,48 +34,30 @@ first-clear : (s : List ℕ) → barred 3 13 3 s ≡ 0 → barred 3 13 3 (take 1
 first-clear s e = barred-split 3 13 3 (take 11 s) (drop 11 s) (omega arith) (ap (barred 3 13 3) (take-append-drop 11 s) ∙ e) .0
 
 as-shape : (a : Answer Rec) (l : List ℕ) (m : Message) → length l ≡ 80 → asEvent a ≡ ok m → Shape l m
-as-shape (ok r) l (event ns t) n e = n
-as-shape (ok r) l (delete names t) n e = let z : _≡_ {A = ℕ} 0 1 = cc in let y : ⊥ = omega arith in absurd y
-as-shape (ok r) l (link names ty ad tx) n e = let z : _≡_ {A = ℕ} 0 1 = cc in let y : ⊥ = omega arith in absurd y
+as-shape (ok r) l m n e = let i : event (r .numbers) (r .chars) ≡ m = cc in subst (Shape l) i n
 as-shape (refusal j k) l m n e = let z : _≡_ {A = ℕ} 0 1 = cc in let y : ⊥ = omega arith in absurd y
 
 event-fields : (l : List ℕ) (m : Message) → readEvent l ≡ ok m → Fields l m
-unfolding readEvent
 event-fields l m e =
-    let p = passed (differs (length l) 80) wrongLength 0 (unless (differs (lowestBarred (take 79 l)) 0) barredByte (lowestBarred (take 79 l)) (unless (differs (getD l 79 0) (checkCharacter (take 79 l))) wrongCheck 80 (asEvent (readColumns eventColumns [] 2 (drop 2 l))))) m e in
-    let q = passed (differs (lowestBarred (take 79 l)) 0) barredByte (lowestBarred (take 79 l)) (unless (differs (getD l 79 0) (checkCharacter (take 79 l))) wrongCheck 80 (asEvent (readColumns eventColumns [] 2 (drop 2 l)))) m (p .1) in
-    let r = passed (differs (getD l 79 0) (checkCharacter (take 79 l))) wrongCheck 80 (asEvent (readColumns eventColumns [] 2 (drop 2 l))) m (q .1) in
-    let n : length l ≡ 80 = differs-same (length l) 80 (p .0) in
+    let r = event-read l m e in
+    let n : length l ≡ 80 = r .size in
     let lt : length (take 79 l) ≡ 79 = length-take-le 79 l (omega arith) in
     let c : take 2 (take 79 l) ++ take 77 (drop 2 l) ≡ take 79 l = ap (λ (x : List ℕ). x ++ take 77 (drop 2 l)) (take-take 2 79 l (omega arith)) ∙ sym (take-add 2 77 l) in
-    let b = after-type (take 79 l) (take 77 (drop 2 l)) (omega arith) c (differs-same (lowestBarred (take 79 l)) 0 (q .0)) in
+    let b = after-type (take 79 l) (take 77 (drop 2 l)) (omega arith) c (r .clear) in
     let f : barred 3 13 3 (take 11 (take 77 (drop 2 l))) ≡ 0 = first-clear (take 77 (drop 2 l)) b in
     record {
       long = omega arith;
       clear = ap (barred 3 13 3) (sym (take-take 11 77 (drop 2 l) (omega arith))) ∙ f;
-      shape = as-shape (readColumns eventColumns [] 2 (drop 2 l)) l m n (r .1);
+      shape = as-shape (readColumns eventColumns [] 2 (drop 2 l)) l m n (r .columns);
     }
 
 delete-fields : (l : List ℕ) (m : Message) → readDelete l ≡ ok m → Fields l m
 unfolding readDelete
 delete-fields l m e =
-    let p = passed (ltb (length l) 13) wrongLength 0 (unless (ltb 80 (length l)) wrongLength 0 (unless (differs (lowestBarred l) 0) barredByte (lowestBarred l) (ok (delete (take 11 (drop 2 l)) (drop 13 l))))) m e in
-    let q = passed (ltb 80 (length l)) wrongLength 0 (unless (differs (lowestBarred l) 0) barredByte (lowestBarred l) (ok (delete (take 11 (drop 2 l)) (drop 13 l)))) m (p .1) in
-    let r = passed (differs (lowestBarred l) 0) barredByte (lowestBarred l) (ok (delete (take 11 (drop 2 l)) (drop 13 l))) m (q .1) in
-    let i : delete (take 11 (drop 2 l)) (drop 13 l) ≡ m = cc (r .1) in
-    let h : 13 ≤ length l = ltb-false (length l) 13 (p .0) in
-    let b = after-type l (drop 2 l) (omega arith) (take-append-drop 2 l) (differs-same (lowestBarred l) 0 (r .0)) in
-    record { long = h; clear = first-clear (drop 2 l) b; shape = of-delete l m i }
-  where
-    of-delete : (l : List ℕ) (m : Message) → delete (take 11 (drop 2 l)) (drop 13 l) ≡ m → Shape l m
-    of-delete l (event ns t) j = let z : _≡_ {A = ℕ} 0 1 = cc in let y : ⊥ = omega arith in absurd y
-    of-delete l (delete names t) j = cc
-    of-delete l (link names ty ad tx) j = let z : _≡_ {A = ℕ} 0 1 = cc in let y : ⊥ = omega arith in absurd y
-
-of-link : (l n t d x : List ℕ) (m : Message) → link n t d x ≡ m → n ≡ take 12 (drop 2 l) → Shape l m
-of-link l n t d x (event ns s) j k = let z : _≡_ {A = ℕ} 0 1 = cc in let y : ⊥ = omega arith in absurd y
-of-link l n t d x (delete names s) j k = let z : _≡_ {A = ℕ} 0 1 = cc in let y : ⊥ = omega arith in absurd y
-of-link l n t d x (link names ty ad tx) j k = cc
+    let r = text-read 13 80 13 deleteParts l m e in
+    let i : delete (take 11 (drop 2 l)) (drop 13 l) ≡ m = cc (r .rest) in
+    let b = after-type l (drop 2 l) (omega (arith, r .long)) (take-append-drop 2 l) (r .clear) in
+    record { long = r .long; clear = first-clear (drop 2 l) b; shape = subst (Shape l) i refl }
 
 inside-names : (to i : ℕ) → 3 ≤ i → i ≤ to → inside 3 to i ≡ true
 inside-names to i a b = rw (le-leb 3 i a, le-leb i to b)
@@ -102,11 +80,11 @@ link-fields l m e =
     record {
       long = omega (arith, w .long);
       clear = clear-none 3 13 true 3 {s = take 11 (drop 2 l)} (λ i a b. inside-names 13 i a (omega (arith, b, k))) c;
-      shape = of-link l (take 12 (drop 2 l)) (typeOf l) (addressOf l) (textOf l) m (w .is) refl;
+      shape = subst (Shape l) (w .is) refl;
     }
 
 by-type : (l : List ℕ) (m : Message) → Came l m → Fields l m
-by-type l m (by-event e) = event-fields l m e
+by-type l m (by-event t e) = event-fields l m e
 by-type l m (by-delete e) = delete-fields l m e
 by-type l m (by-link t e) = link-fields l m e
 

@@ -1,7 +1,7 @@
 -- Laws of CUBE records as bytes: each answer as the code comes to it, and the round trips.
 use mathlib.Core.Path.{_≡_, refl, sym, ap, _∙_}
 use mathlib.Core.Bool.{Bool, true, false}
-use mathlib.Core.List.{List, [], _∷_, _++_}
+use mathlib.Core.List.{List, _∷_, _++_}
 use Prim.Native.Nat.{ℕ, _+_, _-_, _≤_, _<_}
 use native.Mathlib.Omega.{arith}
 use lib.ListN.{length, take, drop, getD, replicate, length-append, length-drop, length-take}
@@ -10,10 +10,10 @@ use lib.IntN.{ℤ, pos}
 use borrow.Author.Tests.{lt-ltb, le-ltb, ne-eqb}
 use Rattle.columns.specs.declared.Outcome.{Outcome}
 use Rattle.columns.specs.Answer.{pick, Answer, ok, refusal, badForm, tooShort}
-use Rattle.columns.specs.Column.{Slot, missing, given}
+use Rattle.columns.specs.Column.{Slot}
 use Rattle.columns.specs.Table.{flagsOf, valuesOf, slotsOf, over, placed, Wrote, laid}
 use Rattle.columns.proofs.laws.Answers.{over-whole, done-of, refused-of}
-use Rattle.columns.proofs.laws.Table.{flags-length, values-length}
+use Rattle.columns.proofs.laws.Table.{flags-length, values-length, slots-back}
 use Rattle.formats.specs.declared.cube.LineRead.{LineRead}
 use Rattle.formats.specs.declared.Reply.{Reply}
 use Rattle.formats.specs.Cube.{Message, event, delete, link, eventKind, deleteKind, linkKind, readLine, lineOf, writeMessage}
@@ -209,12 +209,6 @@ link-named r e = rw e
 
 pub delete-named : (r : List ℕ) → (getD r 0 0 ≡ eventKind → ⊥) → (getD r 0 0 ≡ linkKind → ⊥) → messageIn r ≡ deleteIn r
 delete-named r n m = rw (ne-eqb (getD r 0 0) eventKind n, ne-eqb (getD r 0 0) linkKind m)
-
-pub slots-back : (ns : List Slot) → slotsOf (flagsOf ns) (valuesOf ns) ≡ ns
-unfolding slotsOf flagsOf valuesOf
-slots-back [] = refl
-slots-back (missing ∷ ns) = rw (slots-back ns)
-slots-back (given v ∷ ns) = rw (slots-back ns)
 
 -- what the code took out of an event's record
 module _ (r : List ℕ) (n : length r ≡ 268) (flags : List ℕ) (values : List ℤ) (chars : List ℕ) (f : flags ≡ flagsOf (slotsIn 19 (take 267 (drop 1 r)) (take 248 (drop 20 r)))) (v : values ≡ valuesOf (slotsIn 19 (take 267 (drop 1 r)) (take 248 (drop 20 r)))) (t : chars ≡ over (take 13 (drop 172 r)) (replicate 13 0)) where

@@ -11,7 +11,7 @@ use lib.Seq.{length-take-le}
 use borrow.Author.Tests.{ltb-false}
 use Rattle.columns.specs.Answer.{pick, Answer, ok, refusal, badForm, tooShort, barredByte, unless, differs}
 use Rattle.columns.specs.Bytes.{barred, sameBytes}
-use Rattle.columns.specs.Column.{Rec, good, widths}
+use Rattle.columns.specs.Column.{Rec}
 use Rattle.columns.specs.Reading.{readColumns}
 use Rattle.columns.specs.Writing.{writeColumns}
 use Rattle.columns.proofs.laws.Answers.{passed, held}
@@ -25,6 +25,7 @@ use Rattle.columns.proofs.laws.Table.{flags-length, values-length}
 use Rattle.formats.specs.CubeRecord.{recordSize, recordOf, eventIn, deleteIn, linkIn, messageIn, readRecord, recordAnswer, readInto, lineAnswer, writeFrom}
 use Rattle.columns.proofs.laws.Bytes.{same-is}
 use Rattle.formats.proofs.laws.Record.{numbers-length, packed-length}
+use Rattle.formats.proofs.laws.EventColumns.{event-sound}
 use Rattle.formats.proofs.laws.CubeBack.{event-back, delete-back, Sized, line-accepted, event-size, delete-low-size}
 use Rattle.formats.proofs.laws.LinkBack.{link-back, link-low-size}
 use Rattle.formats.proofs.laws.CubeRecord.{into-read, filled-length, parts-length}
@@ -83,11 +84,11 @@ as-event (ok r) h = h
 as-event (refusal n k) h = h
 
 event-bound : (l : List ℕ) → columnOf (readEvent l) ≤ 80
-unfolding readEvent good widths
+unfolding readEvent
 event-bound l =
     let n : length (take 79 l) ≤ 79 = omega (arith, length-take 79 l) in
     let b : lowestBarred (take 79 l) ≤ 80 = omega (arith, barred-bound 3 13 0 (take 79 l)) in
-    let c : columnOf (asEvent (readColumns eventColumns [] 2 (drop 2 l))) ≤ 80 = as-event (readColumns eventColumns [] 2 (drop 2 l)) (omega (arith, read-bound eventColumns [] 2 (drop 2 l) tt)) in
+    let c : columnOf (asEvent (readColumns eventColumns [] 2 (drop 2 l))) ≤ 80 = as-event (readColumns eventColumns [] 2 (drop 2 l)) (omega (arith, read-bound eventColumns [] 2 (drop 2 l) (event-sound .fine), event-sound .wide)) in
     pick-bound 80 (differs (length l) 80) _ _ (omega arith)
     (pick-bound 80 (differs (lowestBarred (take 79 l)) 0) _ _ b (pick-bound 80 (differs (getD l 79 0) (checkCharacter (take 79 l))) _ _ (omega arith) c))
 
@@ -147,9 +148,9 @@ put-bound l f room =
 
 module _ (r : List ℕ) (room : ℕ) where
   event-or-delete : (k : Bool) → columnOf (writeMessage (pick k (eventIn r) (deleteIn r)) room) ≤ 80
-  unfolding writeMessage good widths
+  unfolding writeMessage
   event-or-delete true =
-      let a : columnOf (writeColumns eventColumns [] 2 (slotsIn 19 (drop 1 r) (drop 20 r)) (take 13 (drop 172 r))) ≤ 80 = omega (arith, write-bound eventColumns [] 2 (slotsIn 19 (drop 1 r) (drop 20 r)) (take 13 (drop 172 r)) tt) in
+      let a : columnOf (writeColumns eventColumns [] 2 (slotsIn 19 (drop 1 r) (drop 20 r)) (take 13 (drop 172 r))) ≤ 80 = omega (arith, write-bound eventColumns [] 2 (slotsIn 19 (drop 1 r) (drop 20 r)) (take 13 (drop 172 r)) (event-sound .fine), event-sound .wide) in
       pick-bound 80 (ltb room 80) _ _ (omega arith) (as-sealed (writeColumns eventColumns [] 2 (slotsIn 19 (drop 1 r) (drop 20 r)) (take 13 (drop 172 r))) a)
   event-or-delete false =
       let s : List ℕ = take (getD r 1 0) (drop 13 r) in

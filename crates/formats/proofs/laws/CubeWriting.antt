@@ -9,7 +9,7 @@ use lib.Seq.{take-at, take-all, set-at}
 use Rattle.columns.specs.declared.Outcome.{Outcome}
 use Rattle.columns.specs.Answer.{ok, refusal, barredByte, tooShort, wrongLength}
 use Rattle.columns.specs.Bytes.{barred}
-use Rattle.columns.specs.Column.{Slot, good, widths, allSlots, allTexts}
+use Rattle.columns.specs.Column.{Slot}
 use Rattle.columns.specs.Writing.{writeColumns, writePart}
 use Rattle.columns.specs.Table.{over, placed, Wrote, WrotePart}
 use Rattle.formats.specs.Check.{checkCharacter}
@@ -19,6 +19,7 @@ use Rattle.columns.proofs.laws.Answers.{wrote-refused, wrote-whole, refused-of,
 use Rattle.columns.proofs.laws.Columns.{columns-size}
 use Rattle.columns.proofs.laws.Writer.{part-wrote}
 use Rattle.columns.proofs.laws.Stretch.{barred-first, barred-after}
+use Rattle.formats.proofs.laws.EventColumns.{event-sound}
 use Rattle.columns.specs.declared.Outcome.the-variants as O
 
 -- ---- a delete
@@ -118,10 +119,9 @@ module _ (ns : List Slot) (t from : List ℕ) (h : 80 ≤ length from) {line : L
       rw (e, f) (wrote-refused _ from m j (put-event-refused ns t (length from) h m j (refused-of (writeColumns eventColumns [] 2 ns t) m j (sym e ∙ p .answer))))
 
   pub event-done : (r : Outcome) (to : List ℕ) (n c : ℕ) → length ns ≡ 19 → length t ≡ 13 → r ≡ O.Done → WrotePart (writeColumns eventColumns [] 2 ns t) (writePart eventColumns [] 2 ns t) 2 r blankEvent line → c ≡ checkCharacter (take 79 line) → n ≡ 80 → to ≡ over (take n (set line 79 c)) from → Wrote (writeMessage (event ns t) (length from)) r from to
-  unfolding good widths allSlots allTexts
   event-done r to n c a b e p k z q =
       let d = done-of (writeColumns eventColumns [] 2 ns t) (sym e ∙ p .answer) in
-      let v : length (d .value) ≡ 77 = columns-size eventColumns [] 2 ns t (d .value) tt (omega (arith, a)) (omega (arith, b)) (d .is) in
+      let v : length (d .value) ≡ 77 = columns-size eventColumns [] 2 ns t (d .value) (event-sound .fine) (omega (arith, a, event-sound .numbers)) (omega (arith, b, event-sound .chars)) (d .is) ∙ event-sound .wide in
       let u : line ≡ placed 2 (d .value) blankEvent = p .bytes ∙ ap (λ (x : List ℕ). placed 2 x blankEvent) (part-wrote eventColumns [] 2 ns t (d .value) (d .is)) in
       let s : set line 79 c ≡ sealed (d .value) = sealed-line (d .value) line c v u k in
       let l : length (sealed (d .value)) ≡ 80 = omega (arith, length-append (69 ∷ 32 ∷ d .value) (checkCharacter (69 ∷ 32 ∷ d .value) ∷ [])) in

@@ -1,22 +1,22 @@
 -- An acceptable E line and an acceptable LI line, as the code comes to them.
 use mathlib.Core.Path.{_≡_, refl, sym, ap, _∙_}
-use mathlib.Core.Bool.{Bool, false, _&&_}
+use mathlib.Core.Bool.{Bool, true, false}
 use mathlib.Core.List.{List, []}
 use Prim.Native.Nat.{ℕ}
 use native.Mathlib.Omega.{arith}
 use lib.ListN.{length, take, drop, getD}
-use lib.Dec.{eqb, ltb}
-use borrow.Author.Tests.{ne-eqb}
-use Rattle.columns.specs.Answer.{pick, Answer, ok, refusal, isOk, differs, wrongLength}
-use Rattle.columns.specs.Column.{Rec}
+use lib.Dec.{eqb}
+use borrow.Author.Tests.{ne-eqb, eqb-true, eqb-false}
+use Rattle.columns.specs.Answer.{Answer, ok, refusal, isOk}
+use Rattle.columns.specs.Column.{Slot, Rec}
 use Rattle.columns.specs.Reading.{readColumns}
 use Rattle.columns.proofs.laws.Tests.{and-false}
 use Rattle.formats.specs.Check.{checkCharacter}
-use Rattle.formats.specs.Link.{typeOf, addressOf, textOf, formed}
 use Rattle.formats.specs.declared.cube.LineRead.{LineRead}
-use Rattle.formats.specs.Cube.{eventColumns, Message, event, delete, link, eventKind, deleteKind, linkKind, asEvent, lowestBarred, linkBarred, linkParts, readEvent, readDelete, readLink, readLine, lineOf, isType, wrongType}
+use Rattle.formats.specs.Cube.{eventColumns, Message, event, delete, link, eventKind, deleteKind, linkKind, asEvent, lowestBarred, deleteParts, readEvent, readDelete, readLine, lineOf, isType}
 use Rattle.formats.specs.Judge.{isEventAnswer, isEventLine, isLinkAnswer, isLinkLine}
-use Rattle.formats.proofs.laws.Cube.{pick-not, event-length, event-barred, event-check, event-columns, line-event}
+use Rattle.formats.proofs.laws.Cube.{text-read, event-columns, event-read, line-event, Came, by-event, by-delete, by-link, came}
+use Rattle.formats.proofs.laws.LinkBack.{link-read}
 use Rattle.formats.proofs.laws.CubeThere.{was-refused}
 use Rattle.formats.specs.declared.cube.Read.the-variants as R
 
@@ -34,34 +34,27 @@ unfolding isLinkLine
 link-line-is l = refl
 
 module _ (l : List ℕ) where
-  delete-not : isEventAnswer (readDelete l) ≡ false
-  unfolding readDelete
-  delete-not =
-      pick-not isEventAnswer (ltb (length l) 13) _ _ refl (pick-not isEventAnswer (ltb 80 (length l)) _ _ refl (pick-not isEventAnswer (differs (lowestBarred l) 0) _ _ refl refl))
+  -- no other line is an event
+  no-event : (isType 69 32 l ≡ true → (m : Message) → readEvent l ≡ ok m → ⊥) → false ≡ isEventLine l
+  unfolding isEventLine readDelete
+  no-event f = by-answer (readLine l) refl
+    where
+      by-came : (ns : List Slot) (t : List ℕ) → Came l (event ns t) → ⊥
+      by-came ns t (by-event g e) = f g (event ns t) e
+      by-came ns t (by-delete e) = let r = text-read 13 80 13 deleteParts l _ e .rest in let z : _≡_ {A = ℕ} 0 1 = cc in omega arith
+      by-came ns t (by-link g e) = let r = link-read l _ e .is in let z : _≡_ {A = ℕ} 0 1 = cc in omega arith
 
-  link-not : isEventAnswer (readLink l) ≡ false
-  unfolding readLink linkParts
-  link-not =
-      pick-not isEventAnswer (ltb (length l) 20) _ _ refl
-      (pick-not isEventAnswer (ltb 255 (length l)) _ _ refl
-      (pick-not isEventAnswer (differs (linkBarred l) 0) _ _ refl (pick-not isEventAnswer (eqb (getD l 14 0) 32 && formed (typeOf l) (addressOf l) (textOf l)) _ _ refl refl)))
-
-  -- what a line of another type is read as
-  abbrev other : Answer Message
-  other = pick (isType 68 69 l) (readDelete l) (pick (isType 76 73 l) (readLink l) (refusal wrongType 1))
-
-  other-not : isEventAnswer other ≡ false
-  other-not = pick-not isEventAnswer (isType 68 69 l) (readDelete l) _ delete-not (pick-not isEventAnswer (isType 76 73 l) (readLink l) _ link-not refl)
+      by-answer : (a : Answer Message) → readLine l ≡ a → false ≡ isEventAnswer a
+      by-answer (ok (event ns t)) e = absurd (by-came ns t (came l (event ns t) e))
+      by-answer (ok (delete names t)) e = refl
+      by-answer (ok (link names ty ad tx)) e = refl
+      by-answer (refusal n k) e = refl
 
   pub judged-length : (length l ≡ 80 → ⊥) → false ≡ isEventLine l
-  unfolding isEventLine readLine
-  judged-length n =
-      sym (pick-not isEventAnswer (ltb (length l) 2) (refusal wrongLength 0) (pick (isType 69 32 l) (readEvent l) other) refl (pick-not isEventAnswer (isType 69 32 l) (readEvent l) other (ap isEventAnswer (event-length l n)) other-not))
+  judged-length n = no-event (λ t m e. n (event-read l m e .size))
 
   type-not : isType 69 32 l ≡ false → false ≡ isEventLine l
-  unfolding isEventLine readLine
-  type-not e =
-      sym (pick-not isEventAnswer (ltb (length l) 2) (refusal wrongLength 0) (pick (isType 69 32 l) (readEvent l) other) refl (ap (λ (t : Bool). isEventAnswer (pick t (readEvent l) other)) e ∙ other-not))
+  type-not e = no-event (λ t m q. let z : _≡_ {A = ℕ} 0 1 = cc in omega arith)
 
   pub judged-first : (getD l 0 0 ≡ 69 → ⊥) → false ≡ isEventLine l
   judged-first n = type-not (rw (ne-eqb (getD l 0 0) 69 n))
@@ -69,25 +62,32 @@ module _ (l : List ℕ) where
   pub judged-second : (getD l 1 0 ≡ 32 → ⊥) → false ≡ isEventLine l
   judged-second n = type-not (rw (ne-eqb (getD l 1 0) 32 n) (and-false (eqb (getD l 0 0) 69)))
 
-  refused-not : (a : Answer Message) (n k : ℕ) → readLine l ≡ a → a ≡ refusal n k → false ≡ isEventLine l
-  unfolding isEventLine
-  refused-not a n k e f = sym (ap isEventAnswer (e ∙ f))
-
   module _ (h : length l ≡ 80) (a : getD l 0 0 ≡ 69) (b : getD l 1 0 ≡ 32) where
     is-event : readLine l ≡ readEvent l
     is-event = line-event l (omega arith) a b
 
     pub judged-barred : (lowestBarred (take 79 l) ≡ 0 → ⊥) → false ≡ isEventLine l
-    judged-barred p = refused-not _ _ _ is-event (event-barred l h p)
+    judged-barred p = no-event (λ t m e. p (event-read l m e .clear))
 
     module _ (p : lowestBarred (take 79 l) ≡ 0) where
-      pub judged-check : (getD l 79 0 ≡ checkCharacter (take 79 l) → ⊥) → false ≡ isEventLine l
-      judged-check q = refused-not _ _ _ is-event (event-check l h p q)
+      check-not : (getD l 79 0 ≡ checkCharacter (take 79 l) → ⊥) → false ≡ isEventLine l
+      check-not q = no-event (λ t m e. q (event-read l m e .check))
 
-      pub judged-columns : getD l 79 0 ≡ checkCharacter (take 79 l) → isOk (readColumns eventColumns [] 2 (drop 2 l)) ≡ isEventLine l
+      columns-are : getD l 79 0 ≡ checkCharacter (take 79 l) → isOk (readColumns eventColumns [] 2 (drop 2 l)) ≡ isEventLine l
       unfolding isEventLine
-      judged-columns q =
+      columns-are q =
           sym (ap isEventAnswer (is-event ∙ event-columns l h p q) ∙ as-event-is (readColumns eventColumns [] 2 (drop 2 l)))
+
+      by-check : (t : Bool) → eqb (getD l 79 0) (checkCharacter (take 79 l)) ≡ t → false ≡ isOk (readColumns eventColumns [] 2 (drop 2 l)) → false ≡ isEventLine l
+      by-check true e q = q ∙ columns-are (eqb-true _ _ e)
+      by-check false e q = check-not (eqb-false _ _ e)
+
+      pub judged-columns : false ≡ isOk (readColumns eventColumns [] 2 (drop 2 l)) → false ≡ isEventLine l
+      judged-columns q = by-check _ refl q
+
+      pub judged-check : true ≡ isOk (readColumns eventColumns [] 2 (drop 2 l)) → (t : Bool) → t ≡ eqb (getD l 79 0) (checkCharacter (take 79 l)) → t ≡ isEventLine l
+      judged-check q true e = q ∙ columns-are (eqb-true _ _ (sym e))
+      judged-check q false e = check-not (eqb-false _ _ (sym e))
 
 -- ---- a link, by the outcome of the line reader
 

@@ -2,60 +2,20 @@
 use mathlib.Core.Path.{_≡_, refl, sym, ap, _∙_}
 use mathlib.Core.Bool.{Bool, true, false, not, _&&_}
 use mathlib.Core.List.{List, [], _∷_, _++_, append-nil}
-use Prim.Native.Nat.{ℕ, zero, suc, _+_, _-_, _≤_, _<_}
-use native.Mathlib.Numerals.{add-one}
+use Prim.Native.Nat.{ℕ, suc, _+_, _-_, _≤_, _<_}
 use native.Mathlib.Omega.{arith}
 use lib.ListN.{length, take, drop, getD, length-drop, drop-of-length-le}
-use lib.Seq.{drop-cons, take-all, drop-append-le}
+use lib.Seq.{take-all, drop-append-le}
 use lib.Dec.{eqb, leb}
 use borrow.Author.Tests.{eq-eqb, ne-eqb, eqb-true, le-leb, lt-leb, leb-true}
 use Rattle.columns.specs.Answer.{pick}
 use Rattle.columns.proofs.laws.Tests.{both-true, and-false}
 use Rattle.formats.specs.Link.{word, solid, typeOf, addressOf, textOf, isWord, begun, formed, saysDelete}
+use Rattle.formats.specs.Lines.{upTo, endFrom}
 use Rattle.columns.proofs.laws.Bytes.{same-none}
+use Rattle.formats.proofs.laws.Lines.{upto-take, upto-append}
 
 -- ---- words: the bytes before the first blank
-
-pub word-nil : word [] ≡ []
-unfolding word
-word-nil = refl
-
-pub word-stop : (b : ℕ) (s : List ℕ) → b ≡ 32 → word (b ∷ s) ≡ []
-unfolding word
-word-stop b s e = rw (eq-eqb b 32 e)
-
-pub word-more : (b : ℕ) (s : List ℕ) → (b ≡ 32 → ⊥) → word (b ∷ s) ≡ b ∷ word s
-unfolding word
-word-more b s n = rw (ne-eqb b 32 n)
-
-front-case : (t : Bool) (b : ℕ) (n : ℕ) (v w : List ℕ) → v ≡ take n w → pick t [] (b ∷ v) ≡ take (suc n) (pick t [] (b ∷ w))
-front-case true b n v w e = refl
-front-case false b n v w e = ap (λ (x : List ℕ). b ∷ x) e
-
--- of the first bytes it is the first bytes of the whole one
-pub word-front : (n : ℕ) (s : List ℕ) → word (take n s) ≡ take n (word s)
-unfolding word
-word-front zero s = refl
-word-front (suc n) [] = refl
-word-front (suc n) (b ∷ s) = front-case (eqb b 32) b n (word (take n s)) (word s) (word-front n s)
-
-short-case : (t : Bool) (b : ℕ) (s w : List ℕ) → length w ≤ length s → length (pick t [] (b ∷ w)) ≤ length (b ∷ s)
-short-case true b s w h = omega arith
-short-case false b s w h = omega arith
-
-pub word-short : (s : List ℕ) → length (word s) ≤ length s
-unfolding word
-word-short [] = omega arith
-word-short (b ∷ s) = short-case (eqb b 32) b s (word s) (word-short s)
-
-take-case : (t : Bool) (b : ℕ) (s w : List ℕ) → take (length w) s ≡ w → take (length (pick t [] (b ∷ w))) (b ∷ s) ≡ pick t [] (b ∷ w)
-take-case true b s w e = refl
-take-case false b s w e = ap (λ (x : List ℕ). b ∷ x) e
-
-pub word-take : (s : List ℕ) → take (length (word s)) s ≡ word s
-unfolding word
-word-take [] = refl
-word-take (b ∷ s) = take-case (eqb b 32) b s (word s) (word-take s)
 
 solid-case : (t : Bool) (b : ℕ) (w : List ℕ) → eqb b 32 ≡ t → solid w ≡ true → solid (pick t [] (b ∷ w)) ≡ true
 unfolding solid
@@ -63,19 +23,9 @@ solid-case true b w e h = refl
 solid-case false b w e h = rw e h
 
 pub word-solid : (s : List ℕ) → solid (word s) ≡ true
-unfolding word solid
+unfolding upTo solid
 word-solid [] = refl
 word-solid (b ∷ s) = solid-case (eqb b 32) b (word s) refl (word-solid s)
-
-append-case : (t : Bool) (b : ℕ) (s v w : List ℕ) → (length w < length s → v ≡ w) → length (pick t [] (b ∷ w)) < length (b ∷ s) → pick t [] (b ∷ v) ≡ pick t [] (b ∷ w)
-append-case true b s v w f h = refl
-append-case false b s v w f h = ap (λ (x : List ℕ). b ∷ x) (f (omega arith))
-
--- what comes after the first blank does not matter
-pub word-append : (s z : List ℕ) → length (word s) < length s → word (s ++ z) ≡ word s
-unfolding word
-word-append [] z h = let y : ⊥ = omega arith in absurd y
-word-append (b ∷ s) z h = append-case (eqb b 32) b s (word (s ++ z)) (word s) (word-append s z) h
 
 split-case : (t : Bool) (b : ℕ) (s w : List ℕ) → eqb b 32 ≡ t → (length w < length s → s ≡ w ++ (32 ∷ drop (suc (length w)) s)) → length (pick t [] (b ∷ w)) < length (b ∷ s) → b ∷ s ≡ pick t [] (b ∷ w) ++ (32 ∷ drop (suc (length (pick t [] (b ∷ w)))) (b ∷ s))
 split-case true b s w e f h = ap (λ (x : ℕ). x ∷ s) (eqb-true b 32 e)
@@ -83,7 +33,7 @@ split-case false b s w e f h = ap (λ (x : List ℕ). b ∷ x) (f (omega arith))
 
 -- a word that does not reach the end has a blank after it
 pub word-split : (s : List ℕ) → length (word s) < length s → s ≡ word s ++ (32 ∷ drop (suc (length (word s))) s)
-unfolding word
+unfolding upTo
 word-split [] h = let y : ⊥ = omega arith in absurd y
 word-split (b ∷ s) h = split-case (eqb b 32) b s (word s) refl (word-split s) h
 
@@ -93,38 +43,23 @@ ends-case false b s v u f e = ap (λ (x : List ℕ). b ∷ x) (f e)
 
 -- bytes with no blank are a word, where no other byte follows
 pub word-ends : (s z : List ℕ) → word z ≡ [] → solid s ≡ true → word (s ++ z) ≡ s
-unfolding word solid
+unfolding upTo solid
 word-ends [] z e h = e
 word-ends (b ∷ s) z e h = ends-case (eqb b 32) b s (word (s ++ z)) (solid s) (word-ends s z e) h
 
 pub word-blank : (s z : List ℕ) → solid s ≡ true → word (s ++ (32 ∷ z)) ≡ s
-unfolding word
+unfolding upTo
 word-blank s z h = word-ends s (32 ∷ z) refl h
 
 -- the code's test of a word
 pub whole-solid : (s : List ℕ) → length (word s) ≡ length s → solid s ≡ true
 whole-solid s e =
-    let w : word s ≡ s = sym (word-take s) ∙ take-all (length (word s)) s (omega arith) in
+    let w : word s ≡ s = sym (upto-take 32 s) ∙ take-all (length (word s)) s (omega arith) in
     ap solid (sym w) ∙ word-solid s
 
 pub solid-whole : (s : List ℕ) → solid s ≡ true → length (word s) ≡ length s
-unfolding word
+unfolding upTo
 solid-whole s h = ap length (ap word (sym (append-nil s)) ∙ word-ends s [] refl h)
-
--- ---- where a word ends, from a place on
-
-module _ (s : List ℕ) (at : ℕ) where
-  pub word-end-blank : at < length s → getD s at 0 ≡ 32 → at ≡ at + length (word (drop at s))
-  unfolding word
-  word-end-blank h e = rw (drop-cons s at 0 h, eq-eqb (getD s at 0) 32 e) (omega arith)
-
-  pub word-end-other : at < length s → (getD s at 0 ≡ 32 → ⊥) → at + length (word (drop at s)) ≡ at + 1 + length (word (drop (at + 1) s))
-  unfolding word
-  word-end-other h e = rw (drop-cons s at 0 h, ne-eqb (getD s at 0) 32 e, add-one) (omega arith)
-
-  pub word-end-last : length s ≤ at → at ≡ at + length (word (drop at s))
-  unfolding word
-  word-end-last h = rw (drop-of-length-le s {i = at} h) (omega arith)
 
 -- ---- a word of its own
 
@@ -174,25 +109,6 @@ formed-of ty ad tx e =
     let r = both-true (isWord ad) (begun tx) (q .1) in
     record { type-fits = leb-true (length ty) 16 (p .0); type-word = is-word ty (q .0); address-word = is-word ad (r .0); some-text = begun-some tx (r .1) }
 
-module _ (ty ad tx : List ℕ) where
-  pub formed-wide : 16 < length ty → false ≡ formed ty ad tx
-  unfolding formed
-  formed-wide h = rw (lt-leb (length ty) 16 h)
-
-  module _ (h : length ty ≤ 16) where
-    pub formed-no-type : isWord ty ≡ false → false ≡ formed ty ad tx
-    unfolding formed
-    formed-no-type e = rw (le-leb (length ty) 16 h, e)
-
-    module _ (p : isWord ty ≡ true) where
-      pub formed-no-address : isWord ad ≡ false → false ≡ formed ty ad tx
-      unfolding formed
-      formed-no-address e = rw (le-leb (length ty) 16 h, p, e)
-
-      pub formed-is : isWord ad ≡ true → begun tx ≡ formed ty ad tx
-      unfolding formed
-      formed-is q = rw (le-leb (length ty) 16 h, p, q)
-
 pub begun-none : (s : List ℕ) → length s ≡ 0 → false ≡ begun s
 unfolding begun
 begun-none [] e = refl
@@ -235,39 +151,43 @@ module _ (l : List ℕ) where
   pub type-append : (z : List ℕ) → 15 + length (typeOf l) < length l → typeOf (l ++ z) ≡ typeOf l
   unfolding typeOf
   type-append z h =
-      ap word (drop-append-le 15 l z (omega arith)) ∙ word-append (drop 15 l) z (omega (arith, length-drop 15 l))
+      ap word (drop-append-le 15 l z (omega arith)) ∙ upto-append 32 (drop 15 l) z (omega (arith, length-drop 15 l))
 
   pub text-length : length (textOf l) ≡ length l - (17 + length (typeOf l) + length (addressOf l))
   unfolding textOf
   text-length = length-drop (17 + length (typeOf l) + length (addressOf l)) l
 
   pub address-none : length l ≤ 15 + length (typeOf l) → addressOf l ≡ []
-  unfolding word
+  unfolding upTo
   address-none h = sym address-word ∙ ap word (drop-of-length-le l {i = 16 + length (typeOf l)} (omega arith))
 
   pub text-none : length l ≤ 16 + length (typeOf l) + length (addressOf l) → textOf l ≡ []
   text-none h = sym text-word ∙ drop-of-length-le l {i = 17 + length (typeOf l) + length (addressOf l)} (omega arith)
 
-  module _ (e : ℕ) (p : e ≡ 15 + length (word (drop 15 l))) where
+  module _ (e : ℕ) (p : e ≡ endFrom 32 l 15) where
     pub type-end : e ≡ 15 + length (typeOf l)
+    unfolding endFrom
     type-end = p ∙ ap (λ (s : List ℕ). 15 + length s) type-word
 
     pub type-part : take (e - 15) (drop 15 l) ≡ typeOf l
+    unfolding endFrom
     type-part =
         let z : e - 15 ≡ length (word (drop 15 l)) = omega arith in
-        rw z (word-take (drop 15 l) ∙ type-word)
+        rw z (upto-take 32 (drop 15 l) ∙ type-word)
 
-    module _ (s : ℕ) (q : s ≡ e + 1 + length (word (drop (e + 1) l))) where
+    module _ (s : ℕ) (q : s ≡ endFrom 32 l (e + 1)) where
       from-blank : word (drop (e + 1) l) ≡ addressOf l
       from-blank = let z : e + 1 ≡ 16 + length (typeOf l) = omega (arith, type-end) in rw z address-word
 
       pub address-end : s ≡ 16 + length (typeOf l) + length (addressOf l)
+      unfolding endFrom
       address-end = omega (arith, q, ap length from-blank, type-end)
 
       pub address-part : take (s - (e + 1)) (drop (e + 1) l) ≡ addressOf l
+      unfolding endFrom
       address-part =
           let z : s - (e + 1) ≡ length (word (drop (e + 1) l)) = omega arith in
-          rw z (word-take (drop (e + 1) l) ∙ from-blank)
+          rw z (upto-take 32 (drop (e + 1) l) ∙ from-blank)
 
       pub text-part : take (length l - (s + 1)) (drop (s + 1) l) ≡ textOf l
       text-part =
@@ -280,9 +200,9 @@ says-none : false ≡ saysDelete []
 unfolding saysDelete
 says-none = simp same-none
 
-module _ (l : List ℕ) (e : ℕ) (p : e ≡ 15 + length (word (drop 15 l))) where
+module _ (l : List ℕ) (e : ℕ) (p : e ≡ endFrom 32 l 15) where
   pub no-address-says : length l ≤ e → false ≡ saysDelete (textOf l)
   no-address-says h = says-none ∙ ap saysDelete (sym (text-none l (omega (arith, type-end l e p))))
 
-  pub no-text-says : (s : ℕ) → s ≡ e + 1 + length (word (drop (e + 1) l)) → length l ≤ s → false ≡ saysDelete (textOf l)
+  pub no-text-says : (s : ℕ) → s ≡ endFrom 32 l (e + 1) → length l ≤ s → false ≡ saysDelete (textOf l)
   no-text-says s q h = says-none ∙ ap saysDelete (sym (text-none l (omega (arith, address-end l e p s q))))

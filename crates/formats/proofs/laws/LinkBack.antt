@@ -14,8 +14,8 @@ use Rattle.columns.proofs.laws.Tests.{both-true}
 use Rattle.formats.specs.Link.{word, typeOf, addressOf, textOf, formed}
 use Rattle.formats.specs.Cube.{Message, link, linkLine, linkBarred, linkParts, readLink, readLine, putLink, writeMessage}
 use Rattle.formats.proofs.laws.Link.{Formed, formed-of, text-length, word-split, word-blank}
-use Rattle.formats.proofs.laws.Cube.{line-link}
-use Rattle.formats.proofs.laws.LinkLine.{link-clear, parts-read, put-link, link-size}
+use Rattle.formats.proofs.laws.Cube.{text-read, text-clear, line-link}
+use Rattle.formats.proofs.laws.LinkLine.{parts-read, put-link, link-size}
 
 -- ---- what a line that is read says
 
@@ -30,15 +30,13 @@ pub record ReadLink (l : List ℕ) (m : Message) : Type 0 where
 pub link-read : (l : List ℕ) (m : Message) → readLink l ≡ ok m → ReadLink l m
 unfolding readLink linkParts
 link-read l m e =
-    let p = passed (ltb (length l) 20) wrongLength 0 (unless (ltb 255 (length l)) wrongLength 0 (unless (differs (linkBarred l) 0) barredByte (linkBarred l) (linkParts l))) m e in
-    let q = passed (ltb 255 (length l)) wrongLength 0 (unless (differs (linkBarred l) 0) barredByte (linkBarred l) (linkParts l)) m (p .1) in
-    let r = passed (differs (linkBarred l) 0) barredByte (linkBarred l) (linkParts l) m (q .1) in
-    let s = held (eqb (getD l 14 0) 32 && formed (typeOf l) (addressOf l) (textOf l)) badForm 15 (ok (link (take 12 (drop 2 l)) (typeOf l) (addressOf l) (textOf l))) m (r .1) in
+    let r = text-read 20 255 14 linkParts l m e in
+    let s = held (eqb (getD l 14 0) 32 && formed (typeOf l) (addressOf l) (textOf l)) badForm 15 (ok (link (take 12 (drop 2 l)) (typeOf l) (addressOf l) (textOf l))) m (r .rest) in
     let t = both-true (eqb (getD l 14 0) 32) (formed (typeOf l) (addressOf l) (textOf l)) (s .0) in
     record {
-      long = ltb-false (length l) 20 (p .0);
-      short = ltb-false 255 (length l) (q .0);
-      clear = differs-same (linkBarred l) 0 (r .0);
+      long = r .long;
+      short = r .short;
+      clear = r .clear;
       blank = eqb-true (getD l 14 0) 32 (t .0);
       parts = t .1;
       is = cc (s .1);
@@ -152,11 +150,12 @@ module _ (names ty ad tx ys : List ℕ) (room : ℕ) (n : length names ≡ 12) (
   written-is = link-put (linkLine names ty ad tx) (formed ty ad tx) room ys e
 
   pub link-back : readLine ys ≡ ok (link names ty ad tx)
+  unfolding readLink
   link-back =
       let w = written-is in
       ap readLine (sym (w .is))
       ∙ line-link (linkLine names ty ad tx) (omega (arith, w .long)) refl refl
-      ∙ link-clear (linkLine names ty ad tx) (w .long) (w .short) (w .clear)
+      ∙ text-clear 20 255 14 linkParts (linkLine names ty ad tx) (w .long) (w .short) (w .clear)
       ∙ parts-back names ty ad tx n (formed-of ty ad tx (w .parts)) (w .parts)
 
   pub link-back-size : length ys ≡ 17 + length ty + length ad + length tx

@@ -2,20 +2,24 @@
 use mathlib.Core.Path.{_≡_, refl, sym, ap, _∙_}
 use mathlib.Core.Bool.{Bool, true, false}
 use mathlib.Core.List.{List, [], _∷_, _++_, append-assoc}
-use Prim.Native.Nat.{ℕ, _+_, _-_, _≤_, _<_}
+use Prim.Native.Nat.{ℕ, _+_, _-_, _≤_, min}
+use mathlib.Core.Logic.{inl, inr}
 use native.Mathlib.Omega.{arith}
 use lib.ListN.{length, take, drop, getD, set, replicate, length-append}
 use lib.IntN.{pos}
-use lib.Dec.{eqb}
+use lib.Dec.{eqb, ltb}
 use lib.Seq.{take-at}
-use borrow.Author.Tests.{eq-eqb, ne-eqb, le-ltb, lt-ltb}
-use Rattle.columns.specs.Answer.{ok, refusal, barredByte, badForm, tooShort, wrongLength}
+use borrow.Author.Tests.{eq-eqb, le-ltb, lt-ltb}
+use Rattle.columns.specs.Answer.{ok, refusal, unless, badForm, wrongLength}
+use Rattle.columns.specs.Writing.{inPlace}
 use Rattle.columns.specs.Table.{over, placed}
 use Rattle.columns.proofs.laws.Tests.{and-false}
-use Rattle.formats.specs.Link.{word, typeOf, addressOf, textOf, formed}
-use Rattle.formats.specs.Cube.{link, linkKind, linkLine, linkBarred, linkParts, readLink, putLink, lineOf, writeMessage}
+use Rattle.formats.specs.Lines.{endFrom}
+use Rattle.formats.specs.Link.{typeOf, addressOf, textOf, formed}
+use Rattle.formats.specs.Cube.{link, linkKind, linkLine, linkBarred, linkParts, linkWritten, putLink, lineOf, writeMessage}
 use Rattle.formats.proofs.laws.Link.{address-none, text-none, no-address, no-text, type-end, type-part, address-end, address-part, text-part}
-use Rattle.columns.proofs.laws.Answers.{differs-not, differs-is}
+use Rattle.columns.proofs.laws.Answers.{differs-not}
+use Rattle.formats.proofs.laws.Lines.{lt-or-le}
 use Rattle.formats.proofs.laws.CubeWriting.{two-placed}
 use Rattle.columns.proofs.laws.Places.{part-over, set-over}
 use Rattle.formats.specs.declared.cube.Read.the-variants as R
@@ -23,28 +27,6 @@ use Rattle.formats.specs.declared.cube.Read.the-variants as R
 -- ---- read
 
 module _ (l : List ℕ) where
-  pub link-short : length l < 20 → readLink l ≡ refusal wrongLength 0
-  unfolding readLink
-  link-short h = rw (lt-ltb _ _ h)
-
-  module _ (h : 20 ≤ length l) where
-    pub link-long : 255 < length l → readLink l ≡ refusal wrongLength 0
-    unfolding readLink
-    link-long k = rw (le-ltb _ _ h, lt-ltb _ _ k)
-
-    module _ (k : length l ≤ 255) where
-      pub link-barred : (linkBarred l ≡ 0 → ⊥) → readLink l ≡ refusal barredByte (linkBarred l)
-      unfolding readLink
-      link-barred b = rw (le-ltb _ _ h, le-ltb _ _ k, differs-is (linkBarred l) 0 b)
-
-      pub link-clear : linkBarred l ≡ 0 → readLink l ≡ linkParts l
-      unfolding readLink
-      link-clear b = rw (le-ltb _ _ h, le-ltb _ _ k, differs-not (linkBarred l) 0 b)
-
-  pub parts-no-blank : (getD l 14 0 ≡ 32 → ⊥) → linkParts l ≡ refusal badForm 15
-  unfolding linkParts
-  parts-no-blank n = rw (ne-eqb (getD l 14 0) 32 n)
-
   pub parts-malformed : formed (typeOf l) (addressOf l) (textOf l) ≡ false → linkParts l ≡ refusal badForm 15
   unfolding linkParts
   parts-malformed e = rw (e, and-false (eqb (getD l 14 0) 32))
@@ -54,13 +36,13 @@ module _ (l : List ℕ) where
   parts-read b e = rw (eq-eqb (getD l 14 0) 32 b, e)
 
   -- the places where the code saw type and address end
-  module _ (e : ℕ) (p : e ≡ 15 + length (word (drop 15 l))) where
+  module _ (e : ℕ) (p : e ≡ endFrom 32 l 15) where
     pub parts-no-address : length l ≤ e → linkParts l ≡ refusal badForm 15
     parts-no-address h =
         let a : addressOf l ≡ [] = address-none l (omega (arith, type-end l e p)) in
         parts-malformed (rw a (no-address (typeOf l) (textOf l)))
 
-    module _ (s : ℕ) (q : s ≡ e + 1 + length (word (drop (e + 1) l))) where
+    module _ (s : ℕ) (q : s ≡ endFrom 32 l (e + 1)) where
       pub parts-no-text : length l ≤ s → linkParts l ≡ refusal badForm 15
       parts-no-text h =
           let a : textOf l ≡ [] = text-none l (omega (arith, address-end l e p s q)) in
@@ -80,38 +62,22 @@ link-size names ty ad tx n =
     omega (arith, length-append names (32 ∷ ty ++ (32 ∷ ad ++ (32 ∷ tx))), length-append ty (32 ∷ ad ++ (32 ∷ tx)), length-append ad (32 ∷ tx))
 
 module _ (names ty ad tx : List ℕ) (n : length names ≡ 12) (room : ℕ) where
-  abbrev line : List ℕ
-  line = linkLine names ty ad tx
-
   abbrev size : ℕ
   size = 17 + length ty + length ad + length tx
 
-  pub put-link-low : 17 + length ty + length ad + length tx < 20 → writeMessage (link names ty ad tx) room ≡ refusal wrongLength 0
+  pub put-link : 20 ≤ 17 + length ty + length ad + length tx → 17 + length ty + length ad + length tx ≤ 255 → 17 + length ty + length ad + length tx ≤ room → linkBarred (linkLine names ty ad tx) ≡ 0 → formed ty ad tx ≡ true → writeMessage (link names ty ad tx) room ≡ ok (linkLine names ty ad tx)
   unfolding writeMessage putLink
-  put-link-low h = rw (link-size names ty ad tx n, lt-ltb size 20 h)
+  put-link h k r b e = rw (link-size names ty ad tx n, le-ltb size 20 h, le-ltb 255 size k, le-ltb room size r, differs-not (linkBarred (linkLine names ty ad tx)) 0 b, e)
 
-  pub put-link-long : 255 < 17 + length ty + length ad + length tx → writeMessage (link names ty ad tx) room ≡ refusal wrongLength 0
+  -- by the size that the code counts up to 256
+  pub put-link-by : (m : ℕ) → m ≡ min 256 (length ty + length ad + length tx) → writeMessage (link names ty ad tx) room ≡ unless (ltb (17 + m) 20) wrongLength 0 (unless (ltb 255 (17 + m)) wrongLength 0 (inPlace room (17 + m) (linkWritten (linkLine names ty ad tx) (formed ty ad tx))))
   unfolding writeMessage putLink
-  put-link-long k = let h : 20 ≤ size = omega arith in rw (link-size names ty ad tx n, le-ltb size 20 h, lt-ltb 255 size k)
-
-  module _ (h : 20 ≤ 17 + length ty + length ad + length tx) (k : 17 + length ty + length ad + length tx ≤ 255) where
-    pub put-link-short : room < 17 + length ty + length ad + length tx → writeMessage (link names ty ad tx) room ≡ refusal tooShort 0
-    unfolding writeMessage putLink
-    put-link-short r = rw (link-size names ty ad tx n, le-ltb size 20 h, le-ltb 255 size k, lt-ltb room size r)
-
-    module _ (r : 17 + length ty + length ad + length tx ≤ room) where
-      pub put-link-barred : (x : ℕ) → x ≡ linkBarred (linkLine names ty ad tx) → (x ≡ 0 → ⊥) → writeMessage (link names ty ad tx) room ≡ refusal barredByte x
-      unfolding writeMessage putLink
-      put-link-barred x e b = rw (link-size names ty ad tx n, le-ltb size 20 h, le-ltb 255 size k, le-ltb room size r, ← e, differs-is x 0 b)
-
-      module _ (b : linkBarred (linkLine names ty ad tx) ≡ 0) where
-        pub put-link-malformed : formed ty ad tx ≡ false → writeMessage (link names ty ad tx) room ≡ refusal badForm 15
-        unfolding writeMessage putLink
-        put-link-malformed e = rw (link-size names ty ad tx n, le-ltb size 20 h, le-ltb 255 size k, le-ltb room size r, differs-not (linkBarred line) 0 b, e)
-
-        pub put-link : formed ty ad tx ≡ true → writeMessage (link names ty ad tx) room ≡ ok (linkLine names ty ad tx)
-        unfolding writeMessage putLink
-        put-link e = rw (link-size names ty ad tx n, le-ltb size 20 h, le-ltb 255 size k, le-ltb room size r, differs-not (linkBarred line) 0 b, e)
+  put-link-by m e = elim (lt-or-le 255 (length ty + length ad + length tx)) [
+    | inl p ↦
+        let z : m ≡ 256 = omega (arith, e, p) in
+        rw (z, link-size names ty ad tx n, le-ltb size 20 (omega (arith, p)), lt-ltb 255 size (omega (arith, p)))
+    | inr p ↦ let z : 17 + m ≡ size = omega (arith, e, p) in rw (z, link-size names ty ad tx n)
+  ]
 
 -- ---- the bytes of a link, part after part
 

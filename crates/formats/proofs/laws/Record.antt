@@ -21,7 +21,7 @@ use Rattle.columns.specs.Column.{Slot, missing, given}
 use Rattle.columns.specs.Table.{slotOf, flagOf, valueOf, flagsOf, valuesOf, over, placed}
 use Rattle.columns.proofs.laws.Places.{placed-length, placed-placed, part-placed, set-placed, set-over}
 use Rattle.columns.proofs.laws.Word.{word-length}
-use Rattle.columns.proofs.laws.Table.{flags-length, values-length, flags-append, values-append}
+use Rattle.columns.proofs.laws.Table.{flags-length, values-length, flags-last, values-last}
 use Rattle.columns.proofs.laws.Answers.{over-whole}
 use Rattle.formats.specs.Record.{patternOf, signedOf, allOnes, topBit, valueBytes, packed, slotsIn}
 
@@ -152,22 +152,20 @@ module _ (i at : ℕ) (fs s : List ℕ) (a : at ≡ 8 * i) where
   next = slotOf (getD fs i 0) (signedOf (wordOf 0 (take 8 (drop (8 * i) s))))
 
   pub flags-turn : (l out : List ℕ) (x : ℕ) → i < length l → out ≡ over (flagsOf (slotsIn i fs s)) l → x ≡ flagOf (slotOf (getD fs i 0) (pos 0)) → set out i x ≡ over (flagsOf (slotsIn (i + 1) fs s)) l
-  unfolding flagsOf
   flags-turn l out x h e p =
       let n : length (flagsOf (slotsIn i fs s)) ≡ i = flags-length (slotsIn i fs s) ∙ numbers-length i fs s in
       let q : x ≡ flagOf next = p ∙ flag-is (getD fs i 0) (pos 0) (signedOf (wordOf 0 (take 8 (drop (8 * i) s)))) in
       set-over (flagsOf (slotsIn i fs s)) l out x i n h e
-      ∙ ap (λ (y : List ℕ). over y l) (ap (λ (y : ℕ). flagsOf (slotsIn i fs s) ++ y ∷ []) q ∙ sym (ap flagsOf (numbers-more i fs s) ∙ flags-append (slotsIn i fs s) (next ∷ [])))
+      ∙ ap (λ (y : List ℕ). over y l) (ap (λ (y : ℕ). flagsOf (slotsIn i fs s) ++ y ∷ []) q ∙ sym (ap flagsOf (numbers-more i fs s) ∙ flags-last (slotsIn i fs s) next))
 
   pub values-more : (l out : List ℤ) (x : ℤ) (u : ℕ) → i < length l → out ≡ over (valuesOf (slotsIn i fs s)) l → u ≡ wordOf 0 (take (at + 8 - at) (drop at s)) → x ≡ valueOf (slotOf (getD fs i 0) (signedOf u)) → set out i x ≡ over (valuesOf (slotsIn (i + 1) fs s)) l
-  unfolding valuesOf
   values-more l out x u h e p q =
       let n : length (valuesOf (slotsIn i fs s)) ≡ i = values-length (slotsIn i fs s) ∙ numbers-length i fs s in
       let z : at + 8 - at ≡ 8 = omega arith in
       let w : u ≡ wordOf 0 (take 8 (drop (8 * i) s)) = p ∙ rw (z, a) in
       let r : x ≡ valueOf next = q ∙ ap (λ (y : ℕ). valueOf (slotOf (getD fs i 0) (signedOf y))) w in
       set-over (valuesOf (slotsIn i fs s)) l out x i n h e
-      ∙ ap (λ (y : List ℤ). over y l) (ap (λ (y : ℤ). valuesOf (slotsIn i fs s) ++ y ∷ []) r ∙ sym (ap valuesOf (numbers-more i fs s) ∙ values-append (slotsIn i fs s) (next ∷ [])))
+      ∙ ap (λ (y : List ℤ). over y l) (ap (λ (y : ℤ). valuesOf (slotsIn i fs s) ++ y ∷ []) r ∙ sym (ap valuesOf (numbers-more i fs s) ∙ values-last (slotsIn i fs s) next))
 
 pub numbers-end : {A : Type 0} (xs l out : List A) → length xs ≡ length l → out ≡ over xs l → out ≡ xs
 numbers-end xs l out n e = e ∙ over-whole xs l n

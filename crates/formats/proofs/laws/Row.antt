@@ -10,14 +10,14 @@ use lib.ListN.{length, take, drop, getD, replicate, length-append, length-drop, 
 use lib.IntN.{ℤ, pos}
 use lib.Dec.{ltb, eqb}
 use borrow.Author.Tests.{le-ltb, lt-ltb, ltb-false, le-leb, lt-leb}
-use Rattle.columns.specs.Answer.{Answer, ok, refusal, barredByte}
+use Rattle.columns.specs.Answer.{Answer, ok, refusal, barredByte, unless, differs, wrongLength}
 use Rattle.columns.specs.Bytes.{inside}
 use Rattle.columns.specs.Column.{Slot, Rec, Col, widths, allSlots, allTexts}
 use Rattle.columns.specs.Reading.{readColumns}
 use Rattle.columns.specs.Writing.{writeLine}
 use Rattle.columns.specs.Table.{flagsOf, outcomeOf}
 use Rattle.columns.specs.Row.{whole, SmallSlots, Fits}
-use Rattle.columns.proofs.laws.Answers.{passed, over-whole}
+use Rattle.columns.proofs.laws.Answers.{passed, over-whole, differs-not, differs-is, differs-same}
 use Rattle.columns.proofs.laws.Bounds.{columnOf, pick-bound, barred-bound, read-bound}
 use Rattle.columns.proofs.laws.Clear.{Clear, clear-blanks, clear-drop, clear-none, barred-clear}
 use Rattle.columns.proofs.laws.Columns.{Line, columns-back}
@@ -25,27 +25,13 @@ use Rattle.columns.proofs.laws.Accepted.{columns-accepted}
 use Rattle.columns.proofs.laws.Reader.{Whole}
 use Rattle.columns.proofs.laws.Row.{written-whole, read-filled, filled-wide, line-there, line-passed}
 use Rattle.columns.proofs.laws.Stretch.{clean-line, line-clean, barred-after}
-use Rattle.columns.specs.Answer.{unless, differs, wrongLength}
 use Rattle.formats.specs.Row.{lowestBarredByte, blankFilled, readRow, writeRow, rowOf}
-use Rattle.columns.proofs.laws.Answers.{differs-not, differs-is, differs-same}
 use Rattle.formats.proofs.laws.Lines.{lt-or-le}
 use Rattle.columns.specs.declared.Outcome.the-variants as O
 
--- ---- each answer, as the code comes to it
-
-module _ (cs : List Col) (l : List ℕ) where
-  pub row-long : widths cs < length l → readRow cs l ≡ refusal wrongLength 0
-  unfolding readRow
-  row-long h = rw (lt-ltb (widths cs) (length l) h)
-
-  module _ (h : length l ≤ widths cs) where
-    pub row-barred : (k : ℕ) → k ≡ lowestBarredByte l → (k ≡ 0 → ⊥) → readRow cs l ≡ refusal barredByte k
-    unfolding readRow
-    row-barred k e n = rw (le-ltb (widths cs) (length l) h, differs-is (lowestBarredByte l) 0 (λ q. n (e ∙ q)), e)
-
-    pub row-columns : lowestBarredByte l ≡ 0 → readRow cs l ≡ readColumns cs [] 0 (blankFilled (widths cs) l)
-    unfolding readRow
-    row-columns e = rw (le-ltb (widths cs) (length l) h, differs-not (lowestBarredByte l) 0 e)
+pub row-columns : (cs : List Col) (l : List ℕ) → length l ≤ widths cs → lowestBarredByte l ≡ 0 → readRow cs l ≡ readColumns cs [] 0 (blankFilled (widths cs) l)
+unfolding readRow
+row-columns cs l h e = rw (le-ltb (widths cs) (length l) h, differs-not (lowestBarredByte l) 0 e)
 
 -- a line over the blanks of an array that is longer than the full width
 blanks-take : (w n : ℕ) → w ≤ n → _≡_ {A = List ℕ} (take w (replicate n 32)) (replicate w 32)
@@ -105,13 +91,13 @@ module _ (cs : List Col) (f : Fits cs) where
 
   module _ (ns : List Slot) (t ys : List ℕ) (room : ℕ) (a : length ns ≡ allSlots cs) (b : length t ≡ allTexts cs) (e : writeLine cs ns t room ≡ ok ys) where
     row-line : Line cs [] 0 ns t ys
-    row-line = columns-back cs [] 0 ns t ys (f .fine) a b (line-passed cs ns t room ys e .1)
+    row-line = columns-back cs [] 0 ns t ys (f .sound .fine) a b (line-passed cs ns t room ys e .1)
 
     pub row-size : length ys ≡ widths cs
     row-size = row-line .size
 
     row-clear : lowestBarredByte ys ≡ 0
-    row-clear = clean-line 0 0 cs 0 ys (f .plain) (row-line .size) (row-line .clean)
+    row-clear = clean-line 0 0 cs 0 ys (f .sound .brackets) (row-line .size) (row-line .clean)
 
     pub row-back : readRow cs ys ≡ ok (record { numbers = ns; chars = t })
     row-back =
@@ -134,8 +120,8 @@ module _ (cs : List Col) (f : Fits cs) where
     row-accepted =
         let p = row-passed cs l m e in
         let n : length (blankFilled (widths cs) l) ≡ widths cs = filled-size (widths cs) l (p .short) in
-        let x = columns-accepted cs [] 0 (blankFilled (widths cs) l) m (f .fine) (omega arith) (line-clean 0 0 cs 0 (blankFilled (widths cs) l) (f .plain) n (filled-clear (widths cs) l (p .clear))) (p .read) in
-        let w = written-whole cs [] 0 (m .numbers) (m .chars) (x .bytes) (f .fine) (x .numbers) (x .written) in
+        let x = columns-accepted cs [] 0 (blankFilled (widths cs) l) m (f .sound .fine) (omega arith) (line-clean 0 0 cs 0 (blankFilled (widths cs) l) (f .sound .brackets) n (filled-clear (widths cs) l (p .clear))) (p .read) in
+        let w = written-whole cs [] 0 (m .numbers) (m .chars) (x .bytes) (f .sound .fine) (x .numbers) (x .written) in
         record {
           bytes = x .bytes;
           is = line-there cs (m .numbers) (m .chars) (widths cs) (omega arith) ∙ x .written;
@@ -155,8 +141,8 @@ module _ (cs : List Col) (f : Fits cs) where
       where
         by-line : (s : List ℕ) → PassedRow cs s m → 1 ≤ length s
         by-line [] p =
-            let b : eqb (getD (replicate (widths cs) 32) 0 0) 32 ≡ false = read-filled cs [] 0 (blankFilled (widths cs) []) m (f .fine) (f .filled) (p .read) in
-            let g : getD {A = ℕ} (replicate (widths cs) 32) 0 0 ≡ 32 = getD-replicate (widths cs) 0 32 0 (filled-wide cs (f .fine) (f .filled)) in
+            let b : eqb (getD (replicate (widths cs) 32) 0 0) 32 ≡ false = read-filled cs [] 0 (blankFilled (widths cs) []) m (f .sound .fine) (f .filled) (p .read) in
+            let g : getD {A = ℕ} (replicate (widths cs) 32) 0 0 ≡ 32 = getD-replicate (widths cs) 0 32 0 (filled-wide cs (f .sound .fine) (f .filled)) in
             let z : eqb 32 32 ≡ false = rw g at b in
             let y : _≡_ {A = ℕ} 0 1 = cc in absurd (omega arith)
         by-line (x ∷ s) p = omega arith
@@ -166,7 +152,7 @@ module _ (cs : List Col) (f : Fits cs) where
       where
         by-line : (s : List ℕ) → PassedRow cs s m → eqb (getD s 0 0) 32 ≡ false
         by-line [] p = refl
-        by-line (b ∷ s) p = read-filled cs [] 0 (blankFilled (widths cs) (b ∷ s)) m (f .fine) (f .filled) (p .read)
+        by-line (b ∷ s) p = read-filled cs [] 0 (blankFilled (widths cs) (b ∷ s)) m (f .sound .fine) (f .filled) (p .read)
 
   -- ---- the column of a refusal
 
@@ -176,5 +162,5 @@ module _ (cs : List Col) (f : Fits cs) where
     | inl p ↦ rw (lt-ltb (widths cs) (length l) p) (omega arith)
     | inr p ↦
         rw (le-ltb (widths cs) (length l) p)
-        (pick-bound (widths cs) (differs (lowestBarredByte l) 0) (refusal barredByte (lowestBarredByte l)) (readColumns cs [] 0 (blankFilled (widths cs) l)) (omega (arith, p, barred-bound 0 0 0 l)) (omega (arith, read-bound cs [] 0 (blankFilled (widths cs) l) (f .fine))))
+        (pick-bound (widths cs) (differs (lowestBarredByte l) 0) (refusal barredByte (lowestBarredByte l)) (readColumns cs [] 0 (blankFilled (widths cs) l)) (omega (arith, p, barred-bound 0 0 0 l)) (omega (arith, read-bound cs [] 0 (blankFilled (widths cs) l) (f .sound .fine))))
   ]

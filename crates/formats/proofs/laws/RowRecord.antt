@@ -14,14 +14,14 @@ use Rattle.columns.specs.Table.{flagsOf, valuesOf, over, slotsOf, Wrote}
 use Rattle.columns.specs.Row.{whole, writeWhole, rowSize, Fits}
 use Rattle.columns.specs.declared.Outcome.{Outcome}
 use Rattle.columns.proofs.laws.Answers.{over-whole, held}
-use Rattle.columns.proofs.laws.Table.{flags-length, values-length}
+use Rattle.columns.proofs.laws.Table.{flags-length, values-length, slots-back}
 use Rattle.columns.specs.Writing.{writeLine}
 use Rattle.formats.specs.declared.row.RowRead.{RowRead}
 use Rattle.columns.specs.Bytes.{sameBytes}
 use Rattle.formats.specs.Record.{packed, Replied, slotsIn, replied}
 use Rattle.formats.specs.Row.{RowFormat, readRow, writeRow, rowOf, rowBytes, rowIn, namedRow, readRowRecord, rowAnswer, readRowInto, rowLineAnswer, writeRowFrom}
 use Rattle.formats.proofs.laws.Record.{packed-length, numbers-length}
-use Rattle.formats.proofs.laws.CubeRecord.{replied-refused, replied-done, slots-back, replied-as, wrote-replied}
+use Rattle.formats.proofs.laws.CubeRecord.{replied-refused, replied-done, replied-as, wrote-replied}
 use Rattle.formats.proofs.laws.Row.{row-accepted, row-size}
 use Rattle.columns.specs.declared.Outcome.the-variants as O
 use Rattle.formats.specs.declared.Reply.the-variants as R

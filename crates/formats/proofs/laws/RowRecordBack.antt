@@ -3,49 +3,34 @@
 use mathlib.Core.Path.{_≡_, refl, sym, ap, _∙_}
 use mathlib.Core.Bool.{Bool, true, false, _&&_}
 use mathlib.Core.List.{List, [], _∷_, _++_, append-assoc}
-use Prim.Native.Nat.{ℕ, zero, suc, _+_, _*_, _/_, _%_, _^_, _-_, _≤_, _<_}
+use Prim.Native.Nat.{ℕ, suc, _+_, _*_, _^_, _-_, _≤_, _<_}
 use native.Mathlib.Omega.{arith}
-use native.Mathlib.Nat.{pow-suc}
 use lib.IntN.{ℤ, pos, negsuc}
 use lib.ListN.{length, take, drop, length-drop}
-use lib.Dec.{eqb, ltb}
+use lib.Dec.{ltb}
 use lib.Seq.{length-take-le, take-all, take-at, drop-at, drop-drop}
 use borrow.Author.Tests.{ltb-false, lt-ltb, le-ltb}
-use Rattle.columns.specs.Answer.{pick, Answer, ok, refusal, badForm, tooShort}
+use Rattle.columns.specs.Answer.{pick, Answer, ok, refusal, badForm, tooShort, unless}
 use Rattle.columns.specs.Column.{Slot, missing, given, Rec, widths, allSlots, allTexts}
-use Rattle.columns.specs.Table.{flagOf, valueOf, flagsOf, valuesOf}
+use Rattle.columns.specs.Table.{valueOf, flagsOf, valuesOf}
 use Rattle.columns.specs.Row.{whole, SmallSlot, SmallSlots, rowSize, Fits}
 use Rattle.columns.proofs.laws.Answers.{passed, held}
 use Rattle.columns.proofs.laws.Bounds.{columnOf, pick-bound}
-use Rattle.columns.proofs.laws.Row.{line-passed, line-bound, flags-cons, values-cons}
-use Rattle.columns.proofs.laws.Table.{flags-length, values-length}
+use Rattle.columns.proofs.laws.Row.{line-passed, line-bound}
+use Rattle.columns.proofs.laws.Table.{flags-length, values-length, flags-cons, values-cons, flag-slot}
 use Rattle.columns.proofs.laws.Tests.{both-true}
-use Rattle.columns.specs.Answer.{unless}
 use Rattle.columns.specs.Word.{wordBytes, wordOf}
 use Rattle.columns.specs.Bytes.{sameBytes}
 use Rattle.formats.specs.Record.{patternOf, signedOf, topBit, allOnes, valueBytes, slotsIn}
 use Rattle.formats.specs.Row.{RowFormat, readRow, writeRow, rowBytes, rowIn, namedRow, readRowRecord, rowAnswer, readRowInto, rowLineAnswer, writeRowFrom}
 use Rattle.columns.proofs.laws.Bytes.{same-is, same-self}
-use Rattle.columns.proofs.laws.Word.{word-length}
+use Rattle.columns.proofs.laws.Word.{word-length, word-back}
 use Rattle.formats.proofs.laws.Record.{numbers-length, bytes-length}
-use Rattle.columns.proofs.laws.Word.{word-append, word-nil, word-cons}
 use Rattle.formats.proofs.laws.CubeRecordBack.{sizeOf}
 use Rattle.formats.proofs.laws.Row.{row-back, row-size, row-accepted, row-bound}
 use Rattle.formats.proofs.laws.RowRecord.{row-bytes-length, row-into-read}
 
 -- ---- a number's bytes, read back
-
-word-back : (w n : ℕ) → n < 256 ^ w → wordOf 0 (wordBytes w n) ≡ n
-unfolding wordBytes
-word-back zero n h = word-nil 0 ∙ omega arith
-word-back (suc w) n h =
-    let k : n < 256 ^ w * 256 = rw pow-suc at h in
-    let d : n / 256 < 256 ^ w = omega arith in
-    word-append 0 (wordBytes w (n / 256)) ((n % 256) ∷ [])
-    ∙ word-cons (wordOf 0 (wordBytes w (n / 256))) (n % 256) []
-    ∙ word-nil (wordOf 0 (wordBytes w (n / 256)) * 256 + n % 256)
-    ∙ ap (λ (x : ℕ). x * 256 + n % 256) (word-back w (n / 256) d)
-    ∙ omega arith
 
 pattern-low : (v : ℤ) → SmallSlot (given v) → patternOf v < 256 ^ 8
 pattern-low (pos n) h = omega (arith, h)
@@ -62,10 +47,6 @@ value-small : (x : Slot) → SmallSlot x → SmallSlot (given (valueOf x))
 value-small missing h = omega arith
 value-small (given v) h = h
 
-slot-back : (x : Slot) → SmallSlot x → pick (eqb (flagOf x) 0) missing (given (valueOf x)) ≡ x
-slot-back missing h = refl
-slot-back (given v) h = refl
-
 numbers-back : (ns : List Slot) (fs t : List ℕ) → SmallSlots ns → slotsIn (length ns) (flagsOf ns ++ fs) (valueBytes (valuesOf ns) ++ t) ≡ ns
 unfolding slotsIn valueBytes
 numbers-back [] fs t s = refl
@@ -74,7 +55,7 @@ numbers-back (x ∷ ns) fs t s =
     let rest : List ℕ = valueBytes (valuesOf ns) ++ t in
     let n : length b ≡ 8 = word-length 8 (patternOf (valueOf x)) in
     let w : signedOf (wordOf 0 b) ≡ valueOf x = ap signedOf (word-back 8 (patternOf (valueOf x)) (pattern-low (valueOf x) (value-small x (s .0)))) ∙ signed-back (valueOf x) (value-small x (s .0)) in
-    rw (flags-cons x ns, values-cons x ns, append-assoc, take-at b rest 8 n, drop-at b rest 8 n, w, slot-back x (s .0), numbers-back ns fs t (s .1))
+    rw (flags-cons x ns, values-cons x ns, append-assoc, take-at b rest 8 n, drop-at b rest 8 n, w, flag-slot x, numbers-back ns fs t (s .1))
 
 drop-suc : (a b : List ℕ) (x n : ℕ) → length a ≡ n → drop (1 + n) (x ∷ (a ++ b)) ≡ b
 drop-suc a b x n e = let z : 1 + n ≡ suc n = omega arith in rw z (drop-at a b n e)
@@ -193,7 +174,7 @@ module _ (F : RowFormat) (f : Fits (F .columns)) where
 
   none-bound : (t u : Bool) (m : Rec) (room : ℕ) → columnOf (rowLineAnswer (F .columns) (unless t badForm 0 (pick u (ok m) (refusal badForm 0))) room) ≤ widths (F .columns)
   none-bound true u m room = omega arith
-  none-bound false true m room = line-bound (F .columns) (m .numbers) (m .chars) room (f .fine)
+  none-bound false true m room = line-bound (F .columns) (m .numbers) (m .chars) room (f .sound .fine)
   none-bound false false m room = omega arith
 
   pub row-from-bound : (r : List ℕ) (room : ℕ) → columnOf (writeRowFrom F r room) ≤ widths (F .columns)

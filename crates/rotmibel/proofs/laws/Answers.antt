@@ -1,5 +1,5 @@
 -- From a reply to the one number that is returned.
-use mathlib.Core.Path.{_≡_, refl, sym, ap, _∙_, subst}
+use mathlib.Core.Path.{_≡_, sym, ap, _∙_, subst}
 use mathlib.Core.List.{List}
 use mathlib.Core.Bool.{Bool, true, false}
 use Prim.Native.Nat.{ℕ, _+_, _*_, _/_, _%_, _≤_, _<_}
@@ -17,37 +17,29 @@ use Rattle.formats.proofs.laws.BlockBounds.{Small, SmallRead, SmallLine, first-
 use Rattle.formats.specs.BlockWalk.{firstLine, nextLine}
 use Rattle.formats.specs.declared.block_walk.BlockLine.{BlockLine}
 use Rattle.formats.proofs.laws.CubeRecordBack.{sizeOf}
-use Rattle.rotmibel.specs.Answers.{numberOf, numberIn, small, Answered, placeNumber, placeIn, lowColumn, AnsweredFrom, lineNumber, lineIn, metLine}
+use Rattle.rotmibel.specs.Answers.{numberIn, small, Answered, placeIn, lowColumn, AnsweredFrom, lineNumber, lineIn, metLine}
 
 pub answered : {a : Answer (List ℕ)} {r : Reply} {from to : List ℕ} (n : ℕ) → n ≡ numberIn r → Replied a r from to → Answered a n from to
-answered {a} {r} {from} {to} n e w = record { answer = e ∙ ap numberIn (w .answer) ∙ in-is a; bytes = w .bytes }
-  where
-    in-is : (b : Answer (List ℕ)) → numberIn (replyOf b) ≡ numberOf b
-    in-is (ok ys) = refl
-    in-is (refusal m k) = refl
+answered n e w = record { answer = e ∙ ap numberIn (w .answer); bytes = w .bytes }
 
 -- a reply is small where the answer's bytes and column are few
 pub few : {a : Answer (List ℕ)} {r : Reply} {from to : List ℕ} → Replied a r from to → sizeOf a < 1099511627776 → columnOf a < 65536 → small r
 few {a} {r} {from} {to} w h k = rw (w .answer) (by-answer a h k)
   where
     by-answer : (b : Answer (List ℕ)) → sizeOf b < 1099511627776 → columnOf b < 65536 → small (replyOf b)
-    by-answer (ok ys) p q = p
-    by-answer (refusal m j) p q = q
+    by-answer (ok ys) p q = (p, q)
+    by-answer (refusal m j) p q = (p, q)
 
 -- ---- calls from a place
 
 pub answered-from : {at : ℕ} {a : Answer (List ℕ)} {r : Reply} {from to : List ℕ} (n : ℕ) → n ≡ placeIn r → RepliedFrom at a r from to → AnsweredFrom at a n from to
-answered-from {at} {a} {r} {from} {to} n e w = record { answer = e ∙ ap placeIn (w .answer) ∙ in-is a; bytes = w .bytes }
-  where
-    in-is : (b : Answer (List ℕ)) → placeIn (fromPlace at (replyOf b)) ≡ placeNumber at b
-    in-is (ok ys) = refl
-    in-is (refusal m k) = refl
+answered-from n e w = record { answer = e ∙ ap placeIn (w .answer); bytes = w .bytes }
 
 pub low-from : {at : ℕ} {a : Answer (List ℕ)} {r : Reply} {from to : List ℕ} → RepliedFrom at a r from to → columnOf a < 65536 → lowColumn r
 low-from {at} {a} {r} {from} {to} w k = rw (w .answer) (by-answer a k)
   where
     by-answer : (b : Answer (List ℕ)) → columnOf b < 65536 → lowColumn (fromPlace at (replyOf b))
-    by-answer (ok ys) q = tt
+    by-answer (ok ys) q = q
     by-answer (refusal m j) q = q
 
 -- ---- the block's numbers fit their parts

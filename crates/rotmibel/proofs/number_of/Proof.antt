@@ -1,4 +1,3 @@
-use native.Mathlib.Omega.{arith}
 use mathlib.Core.Path.{subst, _∙_, ap, sym}
 use Rattle.rotmibel.specs.Answers.{small, numberIn}
 use borrow.Author.Needs.{needs}
@@ -6,10 +5,10 @@ use Rattle.rotmibel.proofs.number_of.Statement.{statement}
 use Rattle.rotmibel.proofs.number_of.Tie as tie
 
 parts-of-requires : tie.Need-parts-of-requires
-parts-of-requires c κs = let h = subst small (c .before .r .given .1) (c .before .before .before .pre) in (omega arith, h)
+parts-of-requires c κs = let h = subst small (c .before .r .given .1) (c .before .before .before .pre) in (h .1, h .0)
 
 parts-of-requires-2 : tie.Need-parts-of-requires-2
-parts-of-requires-2 c κs = let h = subst small (c .before .r2 .given .1) (c .before .before .before .pre) in (h, omega arith)
+parts-of-requires-2 c κs = let h = subst small (c .before .r2 .given .1) (c .before .before .before .pre) in (h .1, h .0)
 
 returns : tie.Need-returns
 returns c = c .parts-of .ensures ∙ sym (ap numberIn (c .before .before .r .given .1))

@@ -1,18 +1,16 @@
 use borrow.Author.Needs.{needs}
 use lib.Dec.{lit≤}
-use mathlib.Core.Path.{refl}
-use Rattle.columns.specs.Column.{good, widths, allSlots, allTexts}
-use Rattle.columns.specs.Table.{columnsOf}
+use mathlib.Core.Path.{sym}
+use Rattle.columns.proofs.laws.Table.{table-of}
+use Rattle.sample.proofs.Back.{sample-sound}
 use Rattle.sample.proofs.write_sample.Statement.{statement}
 use Rattle.sample.proofs.write_sample.Tie as tie
 
 write-columns-requires : tie.Need-write-columns-requires
-unfolding columnsOf good widths allSlots allTexts
 write-columns-requires c κs =
-    (search needs, (refl, record { fine = tt; line = lit≤ tt; low = lit≤ tt; same = search needs; numbers = search needs; chars = search needs }))
+    (search needs, (sym (sample-sound .wide), table-of sample-sound _ _ _ _ (lit≤ tt) (lit≤ tt) (search needs) (search needs) (search needs)))
 
 returns : tie.Need-returns
-unfolding columnsOf
 returns c = c .before .before .write-columns .ensures
 
 pub write-sample-spec : {M : Type 1} → statement M

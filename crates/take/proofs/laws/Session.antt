@@ -9,7 +9,7 @@ use lib.Seq.{take-all, take-take, take-append-le, take-add, drop-cons, drop-drop
 use borrow.Author.Tests.{eq-eqb, ne-eqb}
 use Rattle.columns.specs.Answer.{pick}
 use Rattle.formats.specs.Lines.{lineEnd}
-use Rattle.formats.proofs.laws.Lines.{line-end-from, line-end-to, line-end-newline, line-end-other}
+use Rattle.formats.proofs.laws.Lines.{line-end-from, line-end-to, end-stop, end-other}
 use Rattle.catalogue.proofs.laws.assoc.Tri.{le, gt, le?, eq, ne, eq?}
 use Rattle.take.specs.Session.{cut, Session, ended, endedSaid, grown, byte, bytes, said, closed, closedSaid}
 
@@ -107,8 +107,8 @@ module _ (t : List ℕ) where
   line-grown (suc d) s at h k e =
       let inside : at < length t = omega (arith, line-end-to t at k) in
       let b : ℕ = getD t at 0 in
-      let other : b ≡ 10 → ⊥ = λ (q : b ≡ 10). omega (arith, line-end-newline t at inside q) in
-      let f : lineEnd t (at + 1) ≡ at + 1 + d = sym (line-end-other t at inside other) ∙ e ∙ omega arith in
+      let other : b ≡ 10 → ⊥ = λ (q : b ≡ 10). omega (arith, end-stop 10 t at inside q) in
+      let f : lineEnd t (at + 1) ≡ at + 1 + d = sym (end-other 10 t at inside other) ∙ e ∙ omega arith in
       let g : at + 1 + d ≡ at + suc d = omega arith in
       let r : Grown (grown s (b ∷ [])) (at + 1) d = line-grown d (grown s (b ∷ [])) (at + 1) (grown-length s (b ∷ [])) (omega arith) f in
       record {
@@ -122,7 +122,7 @@ module _ (t : List ℕ) where
   newline-at e h f =
       elim (eq? (getD t e 0) 10) [
         | eq p ↦ p
-        | ne p ↦ let y : ⊥ = omega (arith, line-end-other t e h p, line-end-from t (e + 1)) in absurd y
+        | ne p ↦ let y : ⊥ = omega (arith, end-other 10 t e h p, line-end-from t (e + 1)) in absurd y
       ]
 
   pub record Ended (s : Session) (at e : ℕ) : Type 0 where

@@ -1,4 +1,4 @@
-use Prim.Native.Nat.{ℕ, _-_}
+use Prim.Native.Nat.{ℕ}
 use Rattle.catalogue.proofs.laws.room.Encode.{zeroed-ordered, zeroed-named}
 use lib.ListN.{length-replicate}
 use mathlib.Core.Path.{sym}

@@ -14,7 +14,7 @@ use Rattle.catalogue.specs.declared.decide.Deed.{Deed}
 use Rattle.catalogue.specs.declared.decide.Deed.the-variants.{Leave, Hold, Note, Wipe, Link}
 use Rattle.columns.specs.Bytes.{sameBytes}
 use Rattle.catalogue.specs.Answers.{replaced, repeated, outdated}
-use Rattle.catalogue.specs.Assoc.{find, put, AscFrom}
+use Rattle.catalogue.specs.Assoc.{find, AscFrom}
 use Rattle.catalogue.specs.Line.{link, kind, tripleKey, wideVersion, linkEntry, linkKey, linkVersion}
 use Rattle.catalogue.specs.Section.{part}
 use Rattle.catalogue.specs.Taking.{overLink, limitedLink, linkDeed, deedOf, done}

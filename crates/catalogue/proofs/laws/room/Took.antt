@@ -21,13 +21,14 @@ use Rattle.catalogue.specs.declared.decide.Notice.{Notice}
 use Rattle.catalogue.specs.declared.decide.Notice.the-variants.{Event, Delete, Blank}
 use Rattle.catalogue.specs.declared.decide.Findings.{Findings}
 use Rattle.catalogue.specs.declared.take.Receipt.{Receipt}
+use Rattle.catalogue.specs.Answers.{answered}
 use Rattle.catalogue.specs.Line.{Acceptable, event, delete, blank, link, refused, kindOf, kind, refusedBy, refusedAt, key, deletionKey}
-use Rattle.catalogue.specs.Catalogue.{Catalogue, onlyHeld, named}
+use Rattle.catalogue.specs.Catalogue.{onlyHeld, named}
 use Rattle.catalogue.specs.Taking.{decide, limited, deedOf, done, step}
 use Rattle.catalogue.specs.Room.{contents, roomAfter}
 use Rattle.catalogue.specs.Ordered.{Ordered}
 use Rattle.catalogue.specs.Entries.{Sought, entriesOf, entryOf}
-use Rattle.catalogue.specs.Findings.{noticeKind, noticeOf, IsFound, Known, answered, oneMore, namedAfter, Took}
+use Rattle.catalogue.specs.Findings.{noticeKind, noticeOf, IsFound, Known, oneMore, namedAfter, Took}
 use Rattle.catalogue.proofs.laws.section.Seek.{found-find, missing-find}
 use Rattle.catalogue.proofs.laws.step.Names.{held-named, deletion-named}
 use Rattle.catalogue.proofs.laws.step.Count.{Changes, named-leave, named-link, named-known, named-new}
@@ -69,15 +70,6 @@ module _ (l : List ℕ) (r : LineRead) (e : r ≡ lineOf (readLine l)) where
 
 -- ---- a room in order
 
--- the answer of a deed is the answer of the call
-done-answer : (e : Deed) (c : Catalogue) (l : List ℕ) → done e c l .answer ≡ answered e
-unfolding done
-done-answer (Leave n) c l = refl
-done-answer (Hold n) c l = refl
-done-answer (Note v) c l = refl
-done-answer (Wipe v) c l = refl
-done-answer (Link n) c l = refl
-
 module _ {r : List ℕ} (o : Ordered r) where
   pub few-named : named (contents r) ≤ 512
   few-named = view-good r o .few
@@ -85,9 +77,9 @@ module _ {r : List ℕ} (o : Ordered r) where
   -- an acceptable line, taken
   took-by : (l : List ℕ) → Acceptable l → {e : Deed} → e ≡ deedOf (contents r) l → {after : List ℕ} → after ≡ roomAfter r l → (t : Receipt)
       → t .call ≡ record { number = answered e; column = 0 } → t .named ≡ named (step (contents r) l .after) → Took r l after t
-  unfolding kind step
+  unfolding kind step done
   took-by l a {e} p {after} w t u v =
-      let answers : answered e ≡ step (contents r) l .answer = sym (done-answer e (contents r) l) ∙ ap (λ (x : Deed). done x (contents r) l .answer) p in
+      let answers : answered e ≡ step (contents r) l .answer = ap answered p in
       record {
         call-is = rw (u, answers, call-is r o l, at-zero (readLine l) a);
         room-is = w;

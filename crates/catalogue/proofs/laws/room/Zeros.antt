@@ -10,7 +10,7 @@ use lib.ListN.{length, take, drop, getD, replicate, length-drop}
 use lib.Seq.{drop-cons, drop-at}
 use Rattle.columns.specs.Answer.{pick}
 use Rattle.columns.specs.Bytes.{sameBytes}
-use Rattle.columns.proofs.laws.Bytes.{same-is, same-self}
+use Rattle.columns.proofs.laws.Bytes.{same-is, same-self, same-cons}
 use Rattle.catalogue.specs.Zeros.{allZero}
 use Rattle.catalogue.proofs.laws.assoc.Tests.{and-both}
 
@@ -45,10 +45,10 @@ eqb-flip zero = refl
 eqb-flip (suc x) = ne-eqb 0 (suc x) (λ e. omega arith) ∙ sym (ne-eqb (suc x) 0 (λ e. omega arith))
 
 zero-shift : (n : ℕ) (l : List ℕ) → n ≤ length l → sameBytes (take n (0 ∷ l)) (take n l) ≡ allZero (take n l)
-unfolding sameBytes allZero
-zero-shift zero l h = refl
+unfolding allZero
+zero-shift zero l h = same-self []
 zero-shift (suc n) [] h = let y : ⊥ = omega arith in absurd y
-zero-shift (suc n) (x ∷ u) h = shift-case x n u (eqb 0 x) refl (sym (eqb-flip x)) (λ e. rw e (zero-shift n u (omega arith))) ∙ rw (eqb-flip x)
+zero-shift (suc n) (x ∷ u) h = same-cons 0 x (take n (x ∷ u)) (take n u) ∙ shift-case x n u (eqb 0 x) refl (sym (eqb-flip x)) (λ e. rw e (zero-shift n u (omega arith))) ∙ rw (eqb-flip x)
 
 pub zero-run : (s : List ℕ) (from to : ℕ) → from < to → to ≤ length s → getD s from 0 ≡ 0 → sameBytes (take (to - 1 - from) (drop from s)) (take (to - (from + 1)) (drop (from + 1) s)) ≡ allZero (take (to - from) (drop from s))
 zero-run s from to h k e =

@@ -10,7 +10,7 @@ use lib.ListN.{length, take, drop, getD, set, replicate, length-append, length-t
 use lib.Seq.{take-suc, take-at, drop-at, drop-cons, set-at, length-take-le}
 use Rattle.columns.proofs.laws.Clear.{Clear, allowed-bounds}
 use Rattle.formats.specs.Link.{word}
-use Rattle.formats.proofs.laws.Link.{word-nil, word-stop, word-more, word-short}
+use Rattle.formats.proofs.laws.Lines.{upto-nil, upto-stop, upto-more, upto-short}
 use Rattle.columns.proofs.laws.Word.{Bytes, clear-bytes, word-inj, Before, byte-order}
 use Rattle.catalogue.specs.Line.{typeAt, filled, keyOf}
 use Rattle.columns.proofs.laws.Clear as clear
@@ -19,7 +19,7 @@ use Rattle.columns.proofs.laws.Clear as clear
 
 pub type-short : (at : ℕ) (s : List ℕ) → length (typeAt at s) ≤ 16
 unfolding typeAt
-type-short at s = omega (arith, word-short (take 16 (drop at s)), length-take 16 (drop at s))
+type-short at s = omega (arith, upto-short 32 (take 16 (drop at s)), length-take 16 (drop at s))
 
 pub filled-length : (t : List ℕ) → length t ≤ 16 → length (filled t) ≡ 16
 unfolding filled
@@ -56,18 +56,18 @@ module _ {d bytes : List ℕ} {i : ℕ} (long : 16 ≤ length d) (T : Typing d b
         record {
           within = omega arith;
           bytes-are = rw (T .bytes-are, more, w, z, set-at (take i d) 0 (replicate (16 - (i + 1)) 0) b i w, append-assoc, length-append, w);
-          word-is = rw (more, append-assoc) (T .word-is ∙ ap (λ (l : List ℕ). take i d ++ l) (ap word rest-is ∙ rw (← e) (word-more b (take (16 - (i + 1)) (drop (i + 1) d)) n)));
+          word-is = rw (more, append-assoc) (T .word-is ∙ ap (λ (l : List ℕ). take i d ++ l) (ap word rest-is ∙ rw (← e) (upto-more 32 b (take (16 - (i + 1)) (drop (i + 1) d)) n)));
         }
 
     pub typing-stops : {b : ℕ} → b ≡ getD d i 0 → b ≡ 32 → bytes ≡ filled (word (take 16 d))
     typing-stops {b} e n =
         T .bytes-are
-        ∙ ap filled (sym (T .word-is ∙ ap (λ (l : List ℕ). take i d ++ l) (ap word rest-is ∙ word-stop (getD d i 0) (take (16 - (i + 1)) (drop (i + 1) d)) (sym e ∙ n)) ∙ append-nil (take i d)))
+        ∙ ap filled (sym (T .word-is ∙ ap (λ (l : List ℕ). take i d ++ l) (ap word rest-is ∙ upto-stop 32 (getD d i 0) (take (16 - (i + 1)) (drop (i + 1) d)) (sym e ∙ n)) ∙ append-nil (take i d)))
 
   pub typing-ends : 16 ≤ i → bytes ≡ filled (word (take 16 d))
   typing-ends h =
       let e : 16 - i ≡ 0 = omega arith in
-      T .bytes-are ∙ ap filled (sym (T .word-is ∙ rw (e, word-nil) (append-nil (take i d))))
+      T .bytes-are ∙ ap filled (sym (T .word-is ∙ rw (e, upto-nil 32) (append-nil (take i d))))
 
 -- ---- a key determines its pair and its type
 

@@ -1,5 +1,5 @@
 -- Laws of a link's triple and version, and of its entry's bytes.
-use Prim.Native.Nat.{ℕ, _+_, _*_, _-_, _≤_, _<_}
+use Prim.Native.Nat.{ℕ, _+_, _*_, _-_, _≤_}
 use mathlib.Core.Path.{_≡_, refl, sym, _∙_, ap, ap₂, subst}
 use mathlib.Core.Bool.{Bool, true, false}
 use mathlib.Core.List.{List, _++_}
@@ -10,7 +10,8 @@ use Rattle.columns.specs.Answer.{pick, Answer, ok, refusal}
 use lib.Dec.{eqb}
 use Rattle.columns.proofs.laws.Clear.{Clear, clear-take, clear-drop}
 use Rattle.formats.specs.Link.{word, typeOf}
-use Rattle.formats.proofs.laws.Link.{word-front, word-take, type-word, type-append}
+use Rattle.formats.proofs.laws.Lines.{upto-front, upto-take}
+use Rattle.formats.proofs.laws.Link.{type-word, type-append}
 use Rattle.formats.proofs.laws.LinkFields.{LinkFields, link-fields}
 use Rattle.formats.specs.Cube.{Message, readLine}
 use Rattle.columns.specs.Bytes.{sameBytes}
@@ -47,12 +48,12 @@ pub record WholeLink (l : List ℕ) : Type 0 where
   pub ended : (z : List ℕ) → linkType (l ++ z) ≡ linkType l
 
 -- what was read of it
-link-of-read : (l : List ℕ) (a : Answer Message) → readLine l ≡ a → kindOf a ≡ link → (names ty ad tx : List ℕ) × LinkFields l names ty ad tx
-link-of-read l (ok (cube.link names ty ad tx)) e k = (names, ty, ad, tx, link-fields l names ty ad tx e)
+link-of-read : (l : List ℕ) (a : Answer Message) → readLine l ≡ a → kindOf a ≡ link → LinkFields l
+link-of-read l (ok (cube.link names ty ad tx)) e k = link-fields l names ty ad tx e
 link-of-read l (ok (cube.event ns t)) e k = let z : _≡_ {A = ℕ} 0 1 = cc in absurd (omega arith)
 link-of-read l (ok (cube.delete names t)) e k = by-test (eqb (getD names 10 0) 32) k
   where
-    by-test : (t : Bool) → pick t blank delete ≡ link → (names ty ad tx : List ℕ) × LinkFields l names ty ad tx
+    by-test : (t : Bool) → pick t blank delete ≡ link → LinkFields l
     by-test true q = let z : _≡_ {A = ℕ} 0 1 = cc in absurd (omega arith)
     by-test false q = let z : _≡_ {A = ℕ} 0 1 = cc in absurd (omega arith)
 link-of-read l (refusal n j) e k = let z : _≡_ {A = ℕ} 0 1 = cc in absurd (omega arith)
@@ -60,23 +61,23 @@ link-of-read l (refusal n j) e k = let z : _≡_ {A = ℕ} 0 1 = cc in absurd (o
 -- of any line it is the first 16 bytes of the type that is read
 type-front : (l : List ℕ) → linkType l ≡ take 16 (typeOf l)
 unfolding linkType typeAt
-type-front l = word-front 16 (drop 15 l) ∙ ap (take 16) (type-word l)
+type-front l = upto-front 32 16 (drop 15 l) ∙ ap (take 16) (type-word l)
 
 module _ (l : List ℕ) (e : kind l ≡ link) where
-  fields : (names ty ad tx : List ℕ) × LinkFields l names ty ad tx
+  fields : LinkFields l
   unfolding kind
   fields = link-of-read l (readLine l) refl e
 
   -- a link's type is the type that was read of it
   pub link-type : linkType l ≡ typeOf l
-  link-type = type-front l ∙ take-all 16 (typeOf l) (fields .4 .type-fits)
+  link-type = type-front l ∙ take-all 16 (typeOf l) (fields .type-fits)
 
   type-text : Clear false (typeOf l)
-  type-text = subst (Clear false) (word-take (drop 15 l) ∙ type-word l) (clear-take (length (word (drop 15 l))) (drop 15 l) (clear-drop 15 l (fields .4 .clear)))
+  type-text = subst (Clear false) (upto-take 32 (drop 15 l) ∙ type-word l) (clear-take (length (word (drop 15 l))) (drop 15 l) (clear-drop 15 l (fields .clear)))
 
   pub link-whole : WholeLink l
   link-whole =
-      let f = fields .4 in
+      let f = fields in
       record {
         long = f .long;
         short = f .short;

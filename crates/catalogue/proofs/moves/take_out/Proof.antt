@@ -3,7 +3,6 @@ use borrow.Author.Needs.{needs}
 use native.Mathlib.Omega.{arith}
 use Rattle.catalogue.proofs.moves.take_out.Statement.{statement}
 use Rattle.catalogue.proofs.moves.take_out.Tie as tie
-use Prim.Native.Nat.{_-_}
 use Rattle.catalogue.specs.Moves.{takenOut}
 use Rattle.catalogue.proofs.laws.section.Rows.{row-inside}
 

@@ -1,5 +1,4 @@
 use borrow.Author.Needs.{needs}
-use Prim.Native.Nat.{_-_}
 use Rattle.catalogue.specs.Splice.{cutOut}
 use Rattle.catalogue.proofs.splice.cut.Statement.{statement}
 use Rattle.catalogue.proofs.splice.cut.Tie as tie

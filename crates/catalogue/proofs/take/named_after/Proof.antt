@@ -1,5 +1,4 @@
 -- Deed by deed.
-use Rattle.catalogue.specs.declared.decide.Deed.{Deed}
 use borrow.Author.Needs.{needs}
 use Rattle.catalogue.proofs.take.named_after.Statement.{statement}
 use Rattle.catalogue.proofs.take.named_after.Tie as tie

@@ -2,7 +2,7 @@ use lib.ListN.{replicate, length, take}
 use borrow.Author.Needs.{needs}
 use mathlib.Core.Path.{_≡_, refl}
 use Prim.Native.Nat.{_≤_, _-_}
-use Rattle.columns.proofs.laws.Bytes.{blank-turn, blank-end}
+use Rattle.columns.proofs.laws.Bytes.{blank-one, blank-turn, blank-end}
 use Rattle.columns.proofs.bytes.blanks.Statement.{statement}
 use Rattle.columns.proofs.bytes.blanks.Tie as tie
 
@@ -18,11 +18,14 @@ loop-holds c = (search needs, refl, refl)
 loop-again : tie.Need-loop-again Inv-loop μ-loop
 loop-again c = let l = c .before in (search needs, search needs, blank-turn (l .loop .out) (l .loop .i) (search needs) (l .loop .inv .2))
 
-same-length : tie.Need-same-length Inv-loop μ-loop
-same-length c = c .before .loop .inv .1
+same-length-2 : tie.Need-same-length-2 Inv-loop μ-loop
+same-length-2 c = c .before .loop .inv .1
+
+returns-2 : tie.Need-returns-2 Inv-loop μ-loop
+returns-2 c = let l = c .before in blank-end _ (l .loop .i) _ (search needs) (search needs) (l .loop .inv .1) (l .loop .inv .2)
 
 returns : tie.Need-returns Inv-loop μ-loop
-returns c = let l = c .before in blank-end _ (l .loop .i) _ (search needs) (search needs) (l .loop .inv .1) (l .loop .inv .2)
+returns c = blank-one (c .before .args .out .now) (c .if1 .taken)
 
 pub blanks-spec : {M : Type 1} → statement M
 blanks-spec =
@@ -30,10 +33,13 @@ blanks-spec =
     (tie.spec
     Inv-loop
     μ-loop
+    (λ c. search needs)
+    (λ c. search needs)
+    returns
     loop-holds
     (λ c. search needs)
     (λ c. search needs)
     (λ c. search needs)
     loop-again
-    same-length
-    returns)
+    same-length-2
+    returns-2)

@@ -5,7 +5,8 @@ use Prim.Native.Nat.{ℕ, _≤_, _-_, _+_}
 use lib.ListN.{length}
 use Rattle.columns.specs.Table.{columnsOf, slotsOf}
 use Rattle.columns.proofs.laws.Table.{sizes, slots-length, table-low, table-k, table-t}
-use Rattle.columns.proofs.laws.Writer.{Going, going-start, going-row, going-last, going-end, out-size, turn-fits, turn-ready, turn-refused, turn-done}
+use Rattle.columns.proofs.laws.Writer.{Going, going-start, going-row, going-last, going-end, out-size, turn-fits, turn-ready, turn-refused, turn-done, turn-blank}
+use Rattle.columns.specs.declared.column.Column.{Column}
 use borrow.Rule.Slice.PartMut.{same-len-mid}
 use Rattle.columns.proofs.writer.put_columns.Statement.{statement}
 use Rattle.columns.proofs.writer.put_columns.Tie as tie
@@ -35,67 +36,88 @@ add-end c =
     let g = going-row (a .rows .now) (a .ranges .now) (a .letters .now) (l .i) (a .first + a .n) (x .result) (c .before .before .before .loop-test .taken) (x .ensures .0) (l .inv .2) in
     omega (arith, table-low (g .ready) (c .width-in .result) (c .width-in .ensures ∙ sym (w .wide)))
 
-part-write-cell-end : tie.Need-part-write-cell-end Inv-loop μ-loop
-part-write-cell-end c =
-    let a = c .before .before .before .before .before .before .before .before .before .before .args in
-    let l = c .before .before .before .before .loop in
-    let x = c .before .column-in in
-    let w = sizes (x .result) (a .ranges .now) (a .letters .now) in
-    let g = going-row (a .rows .now) (a .ranges .now) (a .letters .now) (l .i) (a .first + a .n) (x .result) (c .before .before .before .loop-test .taken) (x .ensures .0) (l .inv .2) in
-    turn-fits g (c .width-in .result) (c .width-in .ensures ∙ sym (w .wide))
-
-write-cell-requires : tie.Need-write-cell-requires Inv-loop μ-loop
-write-cell-requires c κs =
+part-blanks-end : tie.Need-part-blanks-end Inv-loop μ-loop
+part-blanks-end c =
     let a = c .before .before .before .before .before .before .before .before .before .before .before .args in
     let l = c .before .before .before .before .before .loop in
     let x = c .before .before .column-in in
     let w = sizes (x .result) (a .ranges .now) (a .letters .now) in
     let g = going-row (a .rows .now) (a .ranges .now) (a .letters .now) (l .i) (a .first + a .n) (x .result) (c .before .before .before .before .loop-test .taken) (x .ensures .0) (l .inv .2) in
-    (turn-ready g (c .before .width-in .result) (c .before .width-in .ensures ∙ sym (w .wide)) (length (a .flags .now)) (slots-length (a .flags .now) (a .values .now) (c .before .before .before .before .before .before .before .before .before .before .before .pre .1 .same)), (x .ensures .1 .0, x .ensures .1 .1))
-
-same-length : tie.Need-same-length Inv-loop μ-loop
-same-length c =
-    let l = c .before .before .before .before .before .before .before .before .before .before .before .loop in
-    same-len-mid (l .at) (l .at + c .before .before .before .before .before .before .before .width-in .result - l .at) (l .out) (c .before .before .before .before .before .write-cell .last .0) (c .before .before .before .before .before .write-cell .kept .0) ∙ out-size (l .inv .2)
-
-returns : tie.Need-returns Inv-loop μ-loop
-returns c =
-    let a = c .before .before .before .before .before .before .before .before .before .before .before .before .before .before .before .before .before .args in
-    let l = c .before .before .before .before .before .before .before .before .before .before .before .loop in
-    let x = c .before .before .before .before .before .before .before .before .column-in in
-    let w = sizes (x .result) (a .ranges .now) (a .letters .now) in
-    let g = going-row (a .rows .now) (a .ranges .now) (a .letters .now) (l .i) (a .first + a .n) (x .result) (c .before .before .before .before .before .before .before .before .before .before .loop-test .taken) (x .ensures .0) (l .inv .2) in
-    turn-refused g (c .before .before .before .before .before .before .before .width-in .result) (c .before .before .before .before .before .before .before .width-in .ensures ∙ sym (w .wide)) _ _ (rw (c .before .r .given .1) at (c .before .before .before .before .before .write-cell .ensures))
-
-add-k : tie.Need-add-k Inv-loop μ-loop
-add-k c =
-    let a = c .before .before .before .before .before .before .before .before .before .before .before .before .before .before .before .before .before .args in
-    let l = c .before .before .before .before .before .before .before .before .before .before .before .loop in
-    let x = c .before .before .before .before .before .before .before .before .column-in in
-    let w = sizes (x .result) (a .ranges .now) (a .letters .now) in
-    let g = going-row (a .rows .now) (a .ranges .now) (a .letters .now) (l .i) (a .first + a .n) (x .result) (c .before .before .before .before .before .before .before .before .before .before .loop-test .taken) (x .ensures .0) (l .inv .2) in
-    omega (arith, table-k (g .ready) (c .slots-in .result) (c .slots-in .ensures ∙ sym (w .numbers)), slots-length (a .flags .now) (a .values .now) (c .before .before .before .before .before .before .before .before .before .before .before .before .before .before .before .before .before .pre .1 .same), c .before .before .before .before .before .before .before .before .before .before .before .before .before .before .before .before .before .good)
-
-add-t : tie.Need-add-t Inv-loop μ-loop
-add-t c =
-    let a = c .before .before .before .before .before .before .before .before .before .before .before .before .before .before .before .before .before .before .args in
-    let l = c .before .before .before .before .before .before .before .before .before .before .before .before .loop in
-    let x = c .before .before .before .before .before .before .before .before .before .column-in in
-    let w = sizes (x .result) (a .ranges .now) (a .letters .now) in
-    let g = going-row (a .rows .now) (a .ranges .now) (a .letters .now) (l .i) (a .first + a .n) (x .result) (c .before .before .before .before .before .before .before .before .before .before .before .loop-test .taken) (x .ensures .0) (l .inv .2) in
-    omega (arith, table-t (g .ready) (c .texts-in .result) (c .texts-in .ensures ∙ sym (w .chars)), c .before .before .before .before .before .before .before .before .before .before .before .before .before .before .before .before .before .before .good)
+    turn-fits g (c .before .width-in .result) (c .before .width-in .ensures ∙ sym (w .wide))
 
 add-i : tie.Need-add-i Inv-loop μ-loop
-add-i c = omega (arith, c .before .before .before .before .before .before .before .before .before .before .before .loop-test .taken, c .before .before .before .before .before .before .before .before .before .before .before .before .before .before .before .before .before .before .pre .0, c .before .before .before .before .before .before .before .before .before .before .before .before .before .before .before .before .before .before .good)
+add-i c = omega (arith, c .before .before .before .before .before .before .before .before .loop-test .taken, c .before .before .before .before .before .before .before .before .before .before .before .before .before .before .before .pre .0, c .before .before .before .before .before .before .before .before .before .before .before .before .before .before .before .good)
 
 loop-again : tie.Need-loop-again Inv-loop μ-loop
 loop-again c =
+    let a = c .before .before .before .before .before .before .before .before .before .before .before .before .before .before .before .args in
+    let l = c .before .before .before .before .before .before .before .before .before .loop in
+    let x = c .before .before .before .before .before .before .column-in in
+    let w = sizes (x .result) (a .ranges .now) (a .letters .now) in
+    let g = going-row (a .rows .now) (a .ranges .now) (a .letters .now) (l .i) (a .first + a .n) (x .result) (c .before .before .before .before .before .before .before .before .loop-test .taken) (x .ensures .0) (l .inv .2) in
+    (search needs, omega (arith, c .before .before .before .before .before .before .before .before .loop-test .taken), turn-blank (x .result) (a .ranges .now) (a .letters .now) g (c .before .before .before .before .before .width-in .result) (c .before .before .before .before .before .width-in .ensures ∙ sym (w .wide)) (omega (arith, ap (λ (q : Column). q .kind) (x .ensures .0), c .before .before .before .before .if1 .taken)) (c .before .before .blanks .ensures))
+
+part-write-cell-end : tie.Need-part-write-cell-end Inv-loop μ-loop
+part-write-cell-end c =
+    let a = c .before .before .before .before .before .before .before .before .before .before .before .args in
+    let l = c .before .before .before .before .before .loop in
+    let x = c .before .before .column-in in
+    let w = sizes (x .result) (a .ranges .now) (a .letters .now) in
+    let g = going-row (a .rows .now) (a .ranges .now) (a .letters .now) (l .i) (a .first + a .n) (x .result) (c .before .before .before .before .loop-test .taken) (x .ensures .0) (l .inv .2) in
+    turn-fits g (c .before .width-in .result) (c .before .width-in .ensures ∙ sym (w .wide))
+
+write-cell-requires : tie.Need-write-cell-requires Inv-loop μ-loop
+write-cell-requires c κs =
+    let a = c .before .before .before .before .before .before .before .before .before .before .before .before .args in
+    let l = c .before .before .before .before .before .before .loop in
+    let x = c .before .before .before .column-in in
+    let w = sizes (x .result) (a .ranges .now) (a .letters .now) in
+    let g = going-row (a .rows .now) (a .ranges .now) (a .letters .now) (l .i) (a .first + a .n) (x .result) (c .before .before .before .before .before .loop-test .taken) (x .ensures .0) (l .inv .2) in
+    (turn-ready g (c .before .before .width-in .result) (c .before .before .width-in .ensures ∙ sym (w .wide)) (length (a .flags .now)) (slots-length (a .flags .now) (a .values .now) (c .before .before .before .before .before .before .before .before .before .before .before .before .pre .1 .same)), (x .ensures .1 .0, x .ensures .1 .1))
+
+same-length : tie.Need-same-length Inv-loop μ-loop
+same-length c =
+    let l = c .before .before .before .before .before .before .before .before .before .before .before .before .loop in
+    same-len-mid (l .at) (l .at + c .before .before .before .before .before .before .before .before .width-in .result - l .at) (l .out) (c .before .before .before .before .before .write-cell .last .0) (c .before .before .before .before .before .write-cell .kept .0) ∙ out-size (l .inv .2)
+
+returns : tie.Need-returns Inv-loop μ-loop
+returns c =
     let a = c .before .before .before .before .before .before .before .before .before .before .before .before .before .before .before .before .before .before .args in
     let l = c .before .before .before .before .before .before .before .before .before .before .before .before .loop in
     let x = c .before .before .before .before .before .before .before .before .before .column-in in
     let w = sizes (x .result) (a .ranges .now) (a .letters .now) in
     let g = going-row (a .rows .now) (a .ranges .now) (a .letters .now) (l .i) (a .first + a .n) (x .result) (c .before .before .before .before .before .before .before .before .before .before .before .loop-test .taken) (x .ensures .0) (l .inv .2) in
-    (search needs, omega (arith, c .before .before .before .before .before .before .before .before .before .before .before .loop-test .taken), turn-done g (c .before .before .before .before .before .before .before .before .width-in .result) (c .before .before .before .before .before .before .before .before .width-in .ensures ∙ sym (w .wide)) _ _ _ (ap (λ (m : ℕ). l .at + m) (c .before .before .before .before .before .before .before .before .width-in .ensures ∙ sym (w .wide))) (ap (λ (m : ℕ). l .k + m) (c .before .slots-in .ensures ∙ sym (w .numbers))) (ap (λ (m : ℕ). l .t + m) (c .texts-in .ensures ∙ sym (w .chars))) (rw (c .before .before .enum-told .given .1) at (c .before .before .before .before .before .before .write-cell .ensures)))
+    turn-refused g (c .before .before .before .before .before .before .before .before .width-in .result) (c .before .before .before .before .before .before .before .before .width-in .ensures ∙ sym (w .wide)) _ _ (rw (c .before .r .given .1) at (c .before .before .before .before .before .write-cell .ensures))
+
+add-k : tie.Need-add-k Inv-loop μ-loop
+add-k c =
+    let a = c .before .before .before .before .before .before .before .before .before .before .before .before .before .before .before .before .before .before .args in
+    let l = c .before .before .before .before .before .before .before .before .before .before .before .before .loop in
+    let x = c .before .before .before .before .before .before .before .before .before .column-in in
+    let w = sizes (x .result) (a .ranges .now) (a .letters .now) in
+    let g = going-row (a .rows .now) (a .ranges .now) (a .letters .now) (l .i) (a .first + a .n) (x .result) (c .before .before .before .before .before .before .before .before .before .before .before .loop-test .taken) (x .ensures .0) (l .inv .2) in
+    omega (arith, table-k (g .ready) (c .slots-in .result) (c .slots-in .ensures ∙ sym (w .numbers)), slots-length (a .flags .now) (a .values .now) (c .before .before .before .before .before .before .before .before .before .before .before .before .before .before .before .before .before .before .pre .1 .same), c .before .before .before .before .before .before .before .before .before .before .before .before .before .before .before .before .before .before .good)
+
+add-t : tie.Need-add-t Inv-loop μ-loop
+add-t c =
+    let a = c .before .before .before .before .before .before .before .before .before .before .before .before .before .before .before .before .before .before .before .args in
+    let l = c .before .before .before .before .before .before .before .before .before .before .before .before .before .loop in
+    let x = c .before .before .before .before .before .before .before .before .before .before .column-in in
+    let w = sizes (x .result) (a .ranges .now) (a .letters .now) in
+    let g = going-row (a .rows .now) (a .ranges .now) (a .letters .now) (l .i) (a .first + a .n) (x .result) (c .before .before .before .before .before .before .before .before .before .before .before .before .loop-test .taken) (x .ensures .0) (l .inv .2) in
+    omega (arith, table-t (g .ready) (c .texts-in .result) (c .texts-in .ensures ∙ sym (w .chars)), c .before .before .before .before .before .before .before .before .before .before .before .before .before .before .before .before .before .before .before .good)
+
+add-i-2 : tie.Need-add-i-2 Inv-loop μ-loop
+add-i-2 c = omega (arith, c .before .before .before .before .before .before .before .before .before .before .before .before .loop-test .taken, c .before .before .before .before .before .before .before .before .before .before .before .before .before .before .before .before .before .before .before .pre .0, c .before .before .before .before .before .before .before .before .before .before .before .before .before .before .before .before .before .before .before .good)
+
+loop-again-2 : tie.Need-loop-again-2 Inv-loop μ-loop
+loop-again-2 c =
+    let a = c .before .before .before .before .before .before .before .before .before .before .before .before .before .before .before .before .before .before .before .args in
+    let l = c .before .before .before .before .before .before .before .before .before .before .before .before .before .loop in
+    let x = c .before .before .before .before .before .before .before .before .before .before .column-in in
+    let w = sizes (x .result) (a .ranges .now) (a .letters .now) in
+    let g = going-row (a .rows .now) (a .ranges .now) (a .letters .now) (l .i) (a .first + a .n) (x .result) (c .before .before .before .before .before .before .before .before .before .before .before .before .loop-test .taken) (x .ensures .0) (l .inv .2) in
+    (search needs, omega (arith, c .before .before .before .before .before .before .before .before .before .before .before .before .loop-test .taken), turn-done g (c .before .before .before .before .before .before .before .before .before .width-in .result) (c .before .before .before .before .before .before .before .before .before .width-in .ensures ∙ sym (w .wide)) _ _ _ (ap (λ (m : ℕ). l .at + m) (c .before .before .before .before .before .before .before .before .before .width-in .ensures ∙ sym (w .wide))) (ap (λ (m : ℕ). l .k + m) (c .before .slots-in .ensures ∙ sym (w .numbers))) (ap (λ (m : ℕ). l .t + m) (c .texts-in .ensures ∙ sym (w .chars))) (rw (c .before .before .enum-told .given .1) at (c .before .before .before .before .before .before .write-cell .ensures)))
 
 same-length-2 : tie.Need-same-length-2 Inv-loop μ-loop
 same-length-2 c = out-size (c .before .loop .inv .2)
@@ -121,6 +143,13 @@ put-columns-spec =
     add-end
     (λ c. search needs)
     (λ c. search needs)
+    part-blanks-end
+    (λ c κs. search needs)
+    add-i
+    (λ c. search needs)
+    loop-again
+    (λ c. search needs)
+    (λ c. search needs)
     part-write-cell-end
     write-cell-requires
     (λ c. search needs)
@@ -131,8 +160,8 @@ put-columns-spec =
     add-k
     (λ c κs. search needs)
     add-t
-    add-i
+    add-i-2
     (λ c. search needs)
-    loop-again
+    loop-again-2
     same-length-2
     returns-2)

@@ -7,9 +7,8 @@ use Rattle.formats.proofs.block.is_header.Tie as tie
 
 returns : tie.Need-returns
 returns c =
-    let a = c .before .before .before .before .before .before .before .before .args in
     let h = c .before .before .before .before .put-header .ensures in
-    c .same .ensures ∙ header-same (a .line .now) (formatOf (a .kind) .header) (c .before .before .before .before .before .before .trimmed .result) (c .before .before .before .before .put-header .result) _ _ (c .before .before .before .before .before .before .trimmed .ensures .0) (h .size) (h .bytes)
+    c .same .ensures ∙ header-same _ (formatOf _ .header) (c .before .before .before .before .before .before .trimmed .result) (c .before .before .before .before .put-header .result) _ _ (c .before .before .before .before .before .before .trimmed .ensures .0) (h .size) (h .bytes)
 
 pub is-header-spec : {M : Type 1} → statement M
 is-header-spec =

@@ -1,6 +1,6 @@
 use native.Mathlib.Omega.{arith}
 use mathlib.Core.Path.{_≡_, sym, ap, _∙_}
-use Prim.Native.Nat.{_≤_, _-_, _+_}
+use Prim.Native.Nat.{_≤_}
 use lib.ListN.{length, take}
 use Rattle.formats.specs.Block.{trimEnd}
 use Rattle.formats.proofs.laws.BlockLine.{trim-blank, trim-other, trim-none}
@@ -20,22 +20,18 @@ loop-holds c = (search needs, ap trimEnd (sym (take-all (length (c .args .line .
 
 returns : tie.Need-returns Inv-loop μ-loop
 returns c =
-    let l = c .before .before .before .before .args .line .now in
     let i = c .before .before .before .loop .i in
-    let e : i - 1 + 1 ≡ i = omega (arith, c .before .before .loop-test .taken) in
-    (c .before .before .before .loop .inv .1 ∙ trim-other l i (c .before .before .loop-test .taken) (c .before .before .before .loop .inv .0) (c .if1 .taken), c .before .before .before .loop .inv .0)
+    (c .before .before .before .loop .inv .1 ∙ trim-other _ i (c .before .before .loop-test .taken) (c .before .before .before .loop .inv .0) (c .if1 .taken), c .before .before .before .loop .inv .0)
 
 loop-again : tie.Need-loop-again Inv-loop μ-loop
 loop-again c =
-    let l = c .before .before .before .before .args .line .now in
     let i = c .before .before .before .loop .i in
-    (omega (arith, c .before .before .before .loop .inv .0), c .before .before .before .loop .inv .1 ∙ trim-blank l i (c .before .before .loop-test .taken) (c .before .before .before .loop .inv .0) (c .if1 .left))
+    (omega (arith, c .before .before .before .loop .inv .0), c .before .before .before .loop .inv .1 ∙ trim-blank _ i (c .before .before .loop-test .taken) (c .before .before .before .loop .inv .0) (c .if1 .left))
 
 returns-2 : tie.Need-returns-2 Inv-loop μ-loop
 returns-2 c =
-    let l = c .before .before .args .line .now in
     let i = c .before .loop .i in
-    (c .before .loop .inv .1 ∙ trim-none l i (c .loop-test .left), c .before .loop .inv .0)
+    (c .before .loop .inv .1 ∙ trim-none _ i (c .loop-test .left), c .before .loop .inv .0)
 
 pub trimmed-spec : {M : Type 1} → statement M
 trimmed-spec =

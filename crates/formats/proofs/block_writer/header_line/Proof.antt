@@ -7,15 +7,13 @@ use Rattle.formats.proofs.block_writer.header_line.Tie as tie
 
 returns : tie.Need-returns
 returns c =
-    let a = c .before .before .before .before .args in
     let h = c .before .put-header .ensures in
-    header-refused (formatOf (a .kind) .header) (header-fine (a .kind) .some) (a .part .now) (c .before .put-header .result) (h .size) (c .if1 .taken)
+    header-refused (formatOf _ .header) (header-fine _ .some) _ (c .before .put-header .result) (h .size) (c .if1 .taken)
 
 returns-2 : tie.Need-returns-2
 returns-2 c =
-    let a = c .before .before .before .before .before .before .before .before .before .before .args in
     let h = c .before .before .before .before .before .before .before .put-header .ensures in
-    header-done (formatOf (a .kind) .header) (header-fine (a .kind) .some) (a .part .now) (c .before .before .before .before .before .before .before .put-header .result) (h .size) (c .before .before .before .before .before .before .if1 .left) _ _ _ (h .bytes) (c .before .before .copy .ensures)
+    header-done (formatOf _ .header) (header-fine _ .some) _ (c .before .before .before .before .before .before .before .put-header .result) (h .size) (c .before .before .before .before .before .before .if1 .left) _ _ _ (h .bytes) (c .before .before .copy .ensures)
 
 pub header-line-spec : {M : Type 1} → statement M
 header-line-spec =

@@ -20,15 +20,13 @@ add-t15 c =
 
 returns : tie.Need-returns
 returns c =
-    let a = c .before .before .before .before .before .before .before .before .before .args in
     let w = c .before .before .before .before .before .write-row-from in
-    line-refused (writeRowFrom (formatOf (a .kind)) (a .from .now)) (a .part .now) (c .before .before .before .before .before .before .before .before .before .pre) _ _ (w .ensures) (w .kept .1 .1 .0) _ _ (c .before .reply .given .1)
+    line-refused (writeRowFrom (formatOf _) _) _ (c .before .before .before .before .before .before .before .before .before .pre) _ _ (w .ensures) (w .kept .1 .1 .0) _ _ (c .before .reply .given .1)
 
 returns-2 : tie.Need-returns-2
 returns-2 c =
-    let a = c .before .before .before .before .before .before .before .before .before .args in
     let w = c .before .before .before .before .before .write-row-from in
-    line-done (writeRowFrom (formatOf (a .kind)) (a .from .now)) (a .part .now) (c .before .before .before .before .before .before .before .before .before .pre) _ _ (w .ensures) (w .kept .1 .1 .0) _ (c .before .reply2 .given .1)
+    line-done (writeRowFrom (formatOf _) _) _ (c .before .before .before .before .before .before .before .before .before .pre) _ _ (w .ensures) (w .kept .1 .1 .0) _ (c .before .reply2 .given .1)
 
 pub record-line-spec : {M : Type 1} → statement M
 record-line-spec =

@@ -19,9 +19,8 @@ from-place-requires c κs =
 returns-2 : tie.Need-returns-2
 unfolding headerCall
 returns-2 c =
-    let a = c .before .before .before .before .before .before .before .args in
     let w = c .before .before .before .header-line in
-    call-replied (writeHeader (formatOf (a .kind) .header)) (a .at) (a .out .now) (c .before .before .before .before .before .if1 .left) (w .result) _ (w .ensures) (w .kept .1 .0) _ (c .from-place .ensures)
+    call-replied (writeHeader (formatOf _ .header)) _ _ (c .before .before .before .before .before .if1 .left) (w .result) _ (w .ensures) (w .kept .1 .0) _ (c .from-place .ensures)
 
 pub write-header-spec : {M : Type 1} → statement M
 write-header-spec =

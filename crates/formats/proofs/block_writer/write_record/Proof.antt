@@ -9,9 +9,7 @@ use Rattle.formats.proofs.block_writer.write_record.Statement.{statemen
 use Rattle.formats.proofs.block_writer.write_record.Tie as tie
 
 returns : tie.Need-returns
-returns c =
-    let a = c .before .before .before .before .before .before .before .args in
-    record-past (formatOf (a .kind)) (format-fits (a .kind)) (a .from .now) (a .at) _ (a .out .now) _ (c .before .before .before .before .if1 .taken) (c .before .before .write-row-from .ensures) (c .before .before .write-row-from .kept .1 .1 .0)
+returns c = record-past (formatOf _) (format-fits _) _ _ _ _ _ (c .before .before .before .before .if1 .taken) (c .before .before .write-row-from .ensures) (c .before .before .write-row-from .kept .1 .1 .0)
 
 from-place-requires : tie.Need-from-place-requires
 from-place-requires c κs =
@@ -22,9 +20,8 @@ from-place-requires c κs =
 returns-2 : tie.Need-returns-2
 unfolding recordCall
 returns-2 c =
-    let a = c .before .before .before .before .before .before .before .before .args in
     let w = c .before .before .before .record-line in
-    call-replied (writeRowFrom (formatOf (a .kind)) (a .from .now)) (a .at) (a .out .now) (c .before .before .before .before .before .if1 .left) (w .result) _ (w .ensures) (w .kept .1 .1 .0) _ (c .from-place .ensures)
+    call-replied (writeRowFrom (formatOf _) _) _ _ (c .before .before .before .before .before .if1 .left) (w .result) _ (w .ensures) (w .kept .1 .1 .0) _ (c .from-place .ensures)
 
 pub write-record-spec : {M : Type 1} → statement M
 write-record-spec =

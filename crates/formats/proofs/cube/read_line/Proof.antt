@@ -1,49 +1,40 @@
-use mathlib.Core.Path.{sym, ap, _∙_}
-use Rattle.formats.specs.Cube.{lineOf}
-use Rattle.formats.proofs.laws.Cube.{line-short, line-event, line-no-event, line-delete, line-no-delete, line-link, line-no-link, line-other}
+use Rattle.formats.specs.Cube.{readLine}
+use borrow.Author.Tests.{le-ltb, lt-ltb, ne-eqb}
 use borrow.Author.Needs.{needs}
 use Rattle.formats.proofs.cube.read_line.Statement.{statement}
 use Rattle.formats.proofs.cube.read_line.Tie as tie
 
 returns : tie.Need-returns
-returns c =
-    let l = c .before .before .before .args .line .now in
-    c .refused .ensures ∙ ap lineOf (sym (line-short l (c .before .if1 .taken)))
+unfolding readLine
+returns c = rw (lt-ltb _ 2 (c .before .if1 .taken)) (c .refused .ensures)
 
 returns-2 : tie.Need-returns-2
-returns-2 c =
-    let l = c .before .before .before .before .before .before .before .args .line .now in
-    c .read-event .ensures ∙ ap lineOf (sym (line-event l (c .before .before .before .before .before .if1 .left) (c .before .before .if2 .taken) (c .before .if3 .taken)))
+unfolding readLine
+returns-2 c = rw (le-ltb _ 2 (c .before .before .before .before .before .if1 .left), c .before .before .if2 .taken, c .before .if3 .taken) (c .read-event .ensures)
 
 returns-3 : tie.Need-returns-3
-returns-3 c =
-    let l = c .before .before .before .before .before .before .before .args .line .now in
-    c .refused2 .ensures ∙ ap lineOf (sym (line-no-event l (c .before .before .before .before .before .if1 .left) (c .before .before .if2 .taken) (c .before .if3 .left)))
+unfolding readLine
+returns-3 c = rw (le-ltb _ 2 (c .before .before .before .before .before .if1 .left), c .before .before .if2 .taken, ne-eqb _ 32 (c .before .if3 .left)) (c .refused2 .ensures)
 
 returns-4 : tie.Need-returns-4
-returns-4 c =
-    let l = c .before .before .before .before .before .before .before .before .args .line .now in
-    c .read-delete .ensures ∙ ap lineOf (sym (line-delete l (c .before .before .before .before .before .before .if1 .left) (c .before .before .if4 .taken) (c .before .if5 .taken)))
+unfolding readLine
+returns-4 c = rw (le-ltb _ 2 (c .before .before .before .before .before .before .if1 .left), c .before .before .if4 .taken, c .before .if5 .taken) (c .read-delete .ensures)
 
 returns-5 : tie.Need-returns-5
-returns-5 c =
-    let l = c .before .before .before .before .before .before .before .before .args .line .now in
-    c .refused3 .ensures ∙ ap lineOf (sym (line-no-delete l (c .before .before .before .before .before .before .if1 .left) (c .before .before .if4 .taken) (c .before .if5 .left)))
+unfolding readLine
+returns-5 c = rw (le-ltb _ 2 (c .before .before .before .before .before .before .if1 .left), c .before .before .if4 .taken, ne-eqb _ 69 (c .before .if5 .left)) (c .refused3 .ensures)
 
 returns-6 : tie.Need-returns-6
-returns-6 c =
-    let l = c .before .before .before .before .before .before .before .before .before .args .line .now in
-    c .read-link .ensures ∙ ap lineOf (sym (line-link l (c .before .before .before .before .before .before .before .if1 .left) (c .before .before .if6 .taken) (c .before .if7 .taken)))
+unfolding readLine
+returns-6 c = rw (le-ltb _ 2 (c .before .before .before .before .before .before .before .if1 .left), c .before .before .if6 .taken, c .before .if7 .taken) (c .read-link .ensures)
 
 returns-7 : tie.Need-returns-7
-returns-7 c =
-    let l = c .before .before .before .before .before .before .before .before .before .args .line .now in
-    c .refused4 .ensures ∙ ap lineOf (sym (line-no-link l (c .before .before .before .before .before .before .before .if1 .left) (c .before .before .if6 .taken) (c .before .if7 .left)))
+unfolding readLine
+returns-7 c = rw (le-ltb _ 2 (c .before .before .before .before .before .before .before .if1 .left), c .before .before .if6 .taken, ne-eqb _ 73 (c .before .if7 .left)) (c .refused4 .ensures)
 
 returns-8 : tie.Need-returns-8
-returns-8 c =
-    let l = c .before .before .before .before .before .before .before .before .args .line .now in
-    c .refused5 .ensures ∙ ap lineOf (sym (line-other l (c .before .before .before .before .before .before .if1 .left) (c .before .before .before .if2 .left) (c .before .before .if4 .left) (c .before .if6 .left)))
+unfolding readLine
+returns-8 c = rw (le-ltb _ 2 (c .before .before .before .before .before .before .if1 .left), ne-eqb _ 69 (c .before .before .before .if2 .left), ne-eqb _ 68 (c .before .before .if4 .left), ne-eqb _ 76 (c .before .if6 .left)) (c .refused5 .ensures)
 
 pub read-line-spec : {M : Type 1} → statement M
 read-line-spec =

@@ -14,21 +14,10 @@ use Rattle.columns.specs.Table.{placed, over}
 use Rattle.columns.specs.Answer.{tooShort, barredByte, wrongLength}
 use Rattle.formats.proofs.cube.write_delete.Tie as tie
 
-returns : tie.Need-returns
-returns c =
-    let a = c .before .before .before .args in
-    wrote-refused _ (a .out .now) wrongLength 0 (put-delete-long (a .names .now) (a .text .now) (length (a .out .now)) (c .if1 .taken))
-
-returns-2 : tie.Need-returns-2
-returns-2 c =
-    let a = c .before .before .before .before .args in
-    wrote-refused _ (a .out .now) tooShort 0 (put-delete-short (a .names .now) (a .text .now) (length (a .out .now)) (c .before .if1 .left) (c .if2 .taken))
-
 returns-3 : tie.Need-returns-3
 returns-3 c =
-    let a = c .before .before .before .before .before .before .before .args in
-    wrote-refused _ (a .out .now) barredByte _
-    (put-names-barred (a .names .now) (a .text .now) (length (a .out .now)) (c .before .before .before .before .if1 .left) (c .before .before .before .if2 .left) _ (c .before .first-barred .ensures) (c .if3 .taken))
+    wrote-refused _ _ barredByte _
+    (put-names-barred _ _ _ (c .before .before .before .before .if1 .left) (c .before .before .before .if2 .left) _ (c .before .first-barred .ensures) (c .if3 .taken))
 
 returns-4 : tie.Need-returns-4
 returns-4 c =
@@ -65,9 +54,9 @@ pub write-delete-spec : {M : Type 1} → statement M
 write-delete-spec =
     tie.close
     (tie.spec
-    returns
+    (λ c. wrote-refused _ _ wrongLength 0 (put-delete-long _ _ _ (c .if1 .taken)))
     (λ c. search needs)
-    returns-2
+    (λ c. wrote-refused _ _ tooShort 0 (put-delete-short _ _ _ (c .before .if1 .left) (c .if2 .taken)))
     (λ c κs. search needs)
     returns-3
     (λ c κs. search needs)

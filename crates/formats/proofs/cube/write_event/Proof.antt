@@ -6,11 +6,11 @@ use Prim.Native.Nat.{_-_}
 use mathlib.Core.Path.{_∙_}
 use native.Mathlib.Omega.{arith}
 use Rattle.formats.proofs.cube.write_event.Statement.{statement}
-use Rattle.columns.specs.Table.{columnsOf, slotsOf}
-use Rattle.columns.specs.Column.{good, widths, allSlots, allTexts}
+use Rattle.columns.specs.Table.{slotsOf}
 use Rattle.columns.proofs.laws.Answers.{wrote-refused}
 use Rattle.formats.proofs.laws.CubeWriting.{put-event-short, event-refused, event-done}
-use Rattle.columns.proofs.laws.Table.{slots-length}
+use Rattle.columns.proofs.laws.Table.{slots-length, table-of}
+use Rattle.formats.proofs.laws.EventColumns.{event-sound}
 use Rattle.columns.specs.Answer.{tooShort}
 use Rattle.formats.proofs.cube.write_event.Tie as tie
 
@@ -20,9 +20,8 @@ returns c =
     wrote-refused _ (a .out .now) tooShort 0 (put-event-short (slotsOf (a .flags .now) (a .values .now)) (a .text .now) (length (a .out .now)) (c .if1 .taken))
 
 put-columns-requires : tie.Need-put-columns-requires
-unfolding columnsOf good widths allSlots allTexts
 put-columns-requires c κs =
-    (search needs, record { fine = tt; line = lit≤ tt; low = lit≤ tt; same = search needs; numbers = search needs; chars = search needs })
+    (search needs, table-of event-sound _ _ _ _ (lit≤ tt) (lit≤ tt) (search needs) (search needs) (search needs))
 
 part-copy-end : tie.Need-part-copy-end
 part-copy-end c =
@@ -37,7 +36,6 @@ copy-requires c κs =
     ⊎-elim (λ x. omega (arith, m, x .2)) (λ x. omega (arith, m, x .2, c .before .before .before .before .before .before .before .before .before .before .before .before .before .before .before .before .before .if1 .left)) (c .before .before .before .before .match .came)
 
 returns-2 : tie.Need-returns-2
-unfolding columnsOf
 returns-2 c =
     let a = c .before .before .before .before .before .before .before .before .before .before .before .before .before .before .before .before .before .before .before .before .before .before .args in
     let S = slotsOf (a .flags .now) (a .values .now) in

@@ -2,11 +2,5 @@ use borrow.Author.Needs.{needs}
 use Rattle.formats.proofs.cube_record.reply_of.Statement.{statement}
 use Rattle.formats.proofs.cube_record.reply_of.Tie as tie
 
-returns : tie.Need-returns
-returns c = rw (c .enum-told .given .1)
-
-returns-2 : tie.Need-returns-2
-returns-2 c = rw (c .before .r .given .1)
-
 pub reply-of-spec : {M : Type 1} → statement M
-reply-of-spec = tie.close (tie.spec (λ c. search needs) (λ c. search needs) returns returns-2)
+reply-of-spec = tie.close (tie.spec (λ c. search needs) (λ c. search needs) (λ c. rw (c .enum-told .given .1)) (λ c. rw (c .before .r .given .1)))

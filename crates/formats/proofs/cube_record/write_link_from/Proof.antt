@@ -6,22 +6,19 @@ use Rattle.formats.proofs.cube_record.write_link_from.Tie as tie
 
 returns : tie.Need-returns
 returns c =
-    let a = c .before .before .before .args in
     let p = c .before .before .before .pre in
-    link-past (a .from .now) (p .0) (p .1 .0) (a .kind) (a .address) (a .text) (p .1 .1 .0) (p .1 .1 .1 .0) (p .1 .1 .1 .1) (a .out .now) (c .if1 .taken)
+    link-past _ (p .0) (p .1 .0) _ _ _ (p .1 .1 .0) (p .1 .1 .1 .0) (p .1 .1 .1 .1) _ (c .if1 .taken)
 
 returns-2 : tie.Need-returns-2
 returns-2 c =
-    let a = c .before .before .before .before .before .before .before .before .before .before .before .before .before .before .before .before .before .before .before .before .before .before .args in
     let p = c .before .before .before .before .before .before .before .before .before .before .before .before .before .before .before .before .before .before .before .before .before .before .pre in
     replied-is _ _ _ _ _ (c .reply-of .ensures)
-    (link-reply (a .from .now) (p .0) (p .1 .0) (a .kind) (a .address) (a .text) (p .1 .1 .0) (p .1 .1 .1 .0) (p .1 .1 .1 .1) (a .out .now) (c .before .before .before .before .before .before .before .before .before .before .before .before .before .before .before .before .before .before .before .if1 .left) _ (c .before .before .before .before .before .before .before .before .before .before .before .before .before .before .before .before .text-bytes .ensures) _ (c .before .before .before .before .before .before .before .before .before .before .before .before .before .before .same .ensures) (c .before .before .before .before .before .before .before .before .before .before .before .before .before .if2 .taken) _ (c .before .before .before .before .before .before .before .before .before .before .copy .ensures) _ _ (c .before .before .before .write-link .ensures))
+    (link-reply _ (p .0) (p .1 .0) _ _ _ (p .1 .1 .0) (p .1 .1 .1 .0) (p .1 .1 .1 .1) _ (c .before .before .before .before .before .before .before .before .before .before .before .before .before .before .before .before .before .before .before .if1 .left) _ (c .before .before .before .before .before .before .before .before .before .before .before .before .before .before .before .before .text-bytes .ensures) _ (c .before .before .before .before .before .before .before .before .before .before .before .before .before .before .same .ensures) (c .before .before .before .before .before .before .before .before .before .before .before .before .before .if2 .taken) _ (c .before .before .before .before .before .before .before .before .before .before .copy .ensures) _ _ (c .before .before .before .write-link .ensures))
 
 returns-3 : tie.Need-returns-3
 returns-3 c =
-    let a = c .before .before .before .before .before .before .before .before .before .args in
     let p = c .before .before .before .before .before .before .before .before .before .pre in
-    no-link (a .from .now) (p .0) (p .1 .0) (a .kind) (a .address) (a .text) (p .1 .1 .0) (p .1 .1 .1 .0) (p .1 .1 .1 .1) (a .out .now) (c .before .before .before .before .before .before .if1 .left) _ (c .before .before .before .text-bytes .ensures) _ (c .before .same .ensures) (c .if2 .left)
+    no-link _ (p .0) (p .1 .0) _ _ _ (p .1 .1 .0) (p .1 .1 .1 .0) (p .1 .1 .1 .1) _ (c .before .before .before .before .before .before .if1 .left) _ (c .before .before .before .text-bytes .ensures) _ (c .before .same .ensures) (c .if2 .left)
 
 pub write-link-from-spec : {M : Type 1} → statement M
 write-link-from-spec =

@@ -1,13 +1,12 @@
+use borrow.Author.Needs.{needs}
 use mathlib.Core.Path.{refl}
-use Rattle.columns.specs.Column.{allSlots, allTexts, widths}
-use Rattle.formats.specs.Format.{firstRow, formatOf, phaseFormat}
-use Rattle.formats.proofs.laws.Format.{format-fits}
+use Rattle.formats.specs.Format.{phaseFormat}
+use Rattle.formats.proofs.laws.Format.{formed}
 use Rattle.formats.proofs.format.format_of.Statement.{statement}
 use Rattle.formats.proofs.format.format_of.Tie as tie
 
 returns : tie.Need-returns
-unfolding formatOf phaseFormat firstRow widths allSlots allTexts
-returns c = record { name = refl; first = refl; rows = refl; width = refl; numbers = refl; texts = refl; fits = format-fits (c .args .kind) }
+returns c = formed (c .before .args .kind) phaseFormat 0 refl _ (c .row-format .ensures)
 
 pub format-of-spec : {M : Type 1} → statement M
-format-of-spec = tie.close (tie.spec returns)
+format-of-spec = tie.close (tie.spec (λ c κs. search needs) returns)

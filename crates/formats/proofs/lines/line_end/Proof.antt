@@ -5,7 +5,7 @@ use Prim.Native.Nat.{ℕ, _≤_, _<_, _-_, _+_}
 use lib.ListN.{length}
 use borrow.Author.Tests.{not-true, not-false}
 use Rattle.formats.specs.Lines.{lineEnd}
-use Rattle.formats.proofs.laws.Lines.{part-in, part-past}
+use Rattle.formats.proofs.laws.Lines.{line-end-to, part-in, part-past}
 use Rattle.formats.proofs.lines.line_end.Statement.{statement}
 use Rattle.formats.proofs.lines.line_end.Tie as tie
 
@@ -39,6 +39,12 @@ loop-again c =
     let z : i + (i + 16 - i) ≡ i + 16 = omega arith in
     (search needs, search needs, l .loop .inv .2 ∙ part-past s i (i + 16 - i) (omega arith) (omega (arith, whole)) ∙ ap (lineEnd s) z)
 
+returns-2 : tie.Need-returns-2 Inv-loop μ-loop
+returns-2 c =
+    let l = c .before .before .loop in
+    let s = c .before .before .before .before .args .s .now in
+    (c .scan-end .ensures .0 ∙ sym (l .inv .2), search needs, omega (arith, c .scan-end .ensures .0, line-end-to s (l .i) (l .inv .1)))
+
 pub line-end-spec : {M : Type 1} → statement M
 line-end-spec =
     tie.close
@@ -61,4 +67,4 @@ line-end-spec =
     (λ c. search needs)
     loop-again
     (λ c κs. search needs)
-    (λ c. search needs))
+    returns-2)

@@ -7,19 +7,19 @@ use Rattle.formats.proofs.link.is_delete.Statement.{statement}
 use Rattle.formats.proofs.link.is_delete.Tie as tie
 
 returns : tie.Need-returns
-returns c = let e = c .before .word-end in no-address-says (c .before .before .before .args .line .now) (e .result) (e .ensures) (c .if1 .taken)
+returns c = let e = c .before .scan-end in no-address-says (c .before .before .before .args .line .now) (e .result) (e .ensures .0) (c .if1 .taken)
 
 returns-2 : tie.Need-returns-2
 returns-2 c =
-    let e = c .before .before .before .word-end in
-    let s = c .before .word-end2 in
-    no-text-says (c .before .before .before .before .before .args .line .now) (e .result) (e .ensures) (s .result) (s .ensures) (c .if2 .taken)
+    let e = c .before .before .before .scan-end in
+    let s = c .before .scan-end2 in
+    no-text-says (c .before .before .before .before .before .args .line .now) (e .result) (e .ensures .0) (s .result) (s .ensures .0) (c .if2 .taken)
 
 returns-3 : tie.Need-returns-3
 returns-3 c =
-    let e = c .before .before .before .before .before .word-end in
-    let s = c .before .before .before .word-end2 in
-    c .says-delete .ensures ∙ ap saysDelete (text-part (c .before .before .before .before .before .before .before .args .line .now) (e .result) (e .ensures) (s .result) (s .ensures))
+    let e = c .before .before .before .before .before .scan-end in
+    let s = c .before .before .before .scan-end2 in
+    c .says-delete .ensures ∙ ap saysDelete (text-part (c .before .before .before .before .before .before .before .args .line .now) (e .result) (e .ensures .0) (s .result) (s .ensures .0))
 
 pub is-delete-spec : {M : Type 1} → statement M
 is-delete-spec =

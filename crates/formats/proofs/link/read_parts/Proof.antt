@@ -8,29 +8,27 @@ use Rattle.formats.proofs.link.read_parts.Tie as tie
 
 returns : tie.Need-returns
 returns c =
-    let e = c .before .before .word-end in
-    c .refused .ensures ∙ ap lineOf (sym (parts-no-address (c .before .before .before .before .args .line .now) (e .result) (e .ensures) (c .before .if1 .taken)))
+    let e = c .before .before .scan-end in
+    c .refused .ensures ∙ ap lineOf (sym (parts-no-address (c .before .before .before .before .args .line .now) (e .result) (e .ensures .0) (c .before .if1 .taken)))
 
 returns-2 : tie.Need-returns-2
 returns-2 c =
-    let e = c .before .before .before .before .word-end in
-    let s = c .before .before .word-end2 in
-    c .refused2 .ensures ∙ ap lineOf (sym (parts-no-text (c .before .before .before .before .before .before .args .line .now) (e .result) (e .ensures) (s .result) (s .ensures) (c .before .if2 .taken)))
+    let e = c .before .before .before .before .scan-end in
+    let s = c .before .before .scan-end2 in
+    c .refused2 .ensures ∙ ap lineOf (sym (parts-no-text (c .before .before .before .before .before .before .args .line .now) (e .result) (e .ensures .0) (s .result) (s .ensures .0) (c .before .if2 .taken)))
 
 returns-3 : tie.Need-returns-3
 returns-3 c =
-    let l = c .before .before .before .before .before .before .before .before .before .before .before .args .line .now in
-    let e = c .before .before .before .before .before .before .before .before .before .word-end in
-    let s = c .before .before .before .before .before .before .before .word-end2 in
-    c .refused3 .ensures ∙ ap lineOf (sym (parts-malformed l (parts-formed l (e .result) (e .ensures) (s .result) (s .ensures) (c .before .before .is-formed .ensures) ∙ not-true _ (c .before .if3 .taken))))
+    let e = c .before .before .before .before .before .before .before .before .before .scan-end in
+    let s = c .before .before .before .before .before .before .before .scan-end2 in
+    c .refused3 .ensures ∙ ap lineOf (sym (parts-malformed _ (parts-formed _ (e .result) (e .ensures .0) (s .result) (s .ensures .0) (c .before .before .is-formed .ensures) ∙ not-true _ (c .before .if3 .taken))))
 
 returns-4 : tie.Need-returns-4
 returns-4 c =
-    let l = c .before .before .before .before .before .before .before .before .before .before .before .before .args .line .now in
-    let e = c .before .before .before .before .before .before .before .before .before .before .word-end in
-    let s = c .before .before .before .before .before .before .before .before .word-end2 in
-    link-is l (e .result) (e .ensures) (s .result) (s .ensures) _ (c .record-text .ensures)
-    ∙ ap lineOf (sym (parts-read l (c .before .before .before .before .before .before .before .before .before .before .before .before .pre .1 .1) (parts-formed l (e .result) (e .ensures) (s .result) (s .ensures) (c .before .before .before .is-formed .ensures) ∙ not-false _ (c .before .before .if3 .left))))
+    let e = c .before .before .before .before .before .before .before .before .before .before .scan-end in
+    let s = c .before .before .before .before .before .before .before .before .scan-end2 in
+    link-is _ (e .result) (e .ensures .0) (s .result) (s .ensures .0) _ (c .record-text .ensures)
+    ∙ ap lineOf (sym (parts-read _ (c .before .before .before .before .before .before .before .before .before .before .before .before .pre .1 .1) (parts-formed _ (e .result) (e .ensures .0) (s .result) (s .ensures .0) (c .before .before .before .is-formed .ensures) ∙ not-false _ (c .before .before .if3 .left))))
 
 pub read-parts-spec : {M : Type 1} → statement M
 read-parts-spec =

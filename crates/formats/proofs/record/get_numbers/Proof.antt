@@ -6,7 +6,7 @@ use Rattle.formats.specs.Record.{slotsIn}
 use Prim.Native.Nat.{_*_, _≤_, _-_}
 use lib.ListN.{length-set, length, getD}
 use Rattle.formats.proofs.laws.Record.{flags-turn, values-more, numbers-end, numbers-length}
-use Rattle.columns.proofs.laws.Table.{flags-length, values-length}
+use Rattle.columns.proofs.laws.Table.{flags-length, values-length, flags-none, values-none}
 use borrow.Author.Needs.{needs}
 use native.Mathlib.Omega.{arith}
 use mathlib.Core.Path.{_≡_, refl, ap, _∙_}
@@ -20,8 +20,8 @@ abbrev μ-loop : tie.MeasureT-loop
 μ-loop from bytes flags₀ values₀ i₀ flags values i = length values - i
 
 loop-holds : tie.Need-loop-holds Inv-loop μ-loop
-unfolding slotsIn flagsOf valuesOf
-loop-holds c = (search needs, search needs, search needs, refl, refl)
+unfolding slotsIn
+loop-holds c = (search needs, search needs, search needs, flags-none _, values-none _)
 
 loop-less : tie.Need-loop-less Inv-loop μ-loop
 loop-less c = simp length-set (omega arith)

@@ -31,8 +31,7 @@ loop-again c =
 returns : tie.Need-returns Inv-loop μ-loop
 returns c =
     let l = c .before .loop in
-    let a = c .before .before .before .args in
-    values-end (a .values .now) (a .out .now) (l .out) (l .i) (search needs) (c .loop-test .left) (l .inv .2)
+    values-end _ _ (l .out) (l .i) (search needs) (c .loop-test .left) (l .inv .2)
 
 pub put-values-spec : {M : Type 1} → statement M
 put-values-spec =

@@ -1,6 +1,8 @@
 use borrow.Author.Needs.{needs}
 use native.Mathlib.Omega.{arith}
+use Prim.Native.Nat.{_≤_}
 use lib.ListN.{length}
+use Rattle.columns.specs.Column.{allSlots, allTexts}
 use Rattle.formats.specs.Format.{formatOf}
 use Rattle.formats.proofs.laws.CubeRecord.{replied-refused}
 use Rattle.formats.proofs.laws.RowRecord.{row-arrays, row-into-done, row-into-refused, row-into-short}
@@ -10,42 +12,26 @@ use Rattle.formats.proofs.row.read_row_into.Tie as tie
 
 returns : tie.Need-returns
 returns c =
-    let a = c .before .before .before .before .args in
     let f = c .before .format-of .ensures in
-    replied-refused _ (a .out .now) tooShort 0 (row-into-short (formatOf (a .kind)) (a .line .now) (length (a .out .now)) (omega (arith, f .numbers, f .texts, c .if1 .taken)))
+    replied-refused _ _ tooShort 0 (row-into-short (formatOf _) _ _ (omega (arith, f .numbers, f .texts, c .if1 .taken)))
 
-part-row-bytes-end : tie.Need-part-row-bytes-end
-part-row-bytes-end c =
-    let a = c .before .before .before .before .before .before .before .before .before .before .before .args in
-    let f = c .before .before .before .before .before .before .before .before .format-of .ensures in
-    let w = row-arrays (formatOf (a .kind)) (a .line .now) (a .out .now) (omega (arith, f .numbers, f .texts, c .before .before .before .before .before .before .before .if1 .left)) (c .before .before .before .before .before .before .read-row .result) (c .before .before .before .before .before .before .read-row .ensures) (f .fits) (c .before .enum-told .given .1) in
-    omega (arith, f .numbers, w .0)
-
-part-row-bytes-end-2 : tie.Need-part-row-bytes-end-2
-part-row-bytes-end-2 c =
-    let a = c .before .before .before .before .before .before .before .before .before .before .before .before .before .args in
-    let f = c .before .before .before .before .before .before .before .before .before .before .format-of .ensures in
-    let w = row-arrays (formatOf (a .kind)) (a .line .now) (a .out .now) (omega (arith, f .numbers, f .texts, c .before .before .before .before .before .before .before .before .before .if1 .left)) (c .before .before .before .before .before .before .before .before .read-row .result) (c .before .before .before .before .before .before .before .before .read-row .ensures) (f .fits) (c .before .before .before .enum-told .given .1) in
-    omega (arith, f .numbers, w .1 .0)
-
-part-row-bytes-end-3 : tie.Need-part-row-bytes-end-3
-part-row-bytes-end-3 c =
-    let a = c .before .before .before .before .before .before .before .before .before .before .before .before .before .before .before .args in
-    let f = c .before .before .before .before .before .before .before .before .before .before .before .before .format-of .ensures in
-    let w = row-arrays (formatOf (a .kind)) (a .line .now) (a .out .now) (omega (arith, f .numbers, f .texts, c .before .before .before .before .before .before .before .before .before .before .before .if1 .left)) (c .before .before .before .before .before .before .before .before .before .before .read-row .result) (c .before .before .before .before .before .before .before .before .before .before .read-row .ensures) (f .fits) (c .before .before .before .before .before .enum-told .given .1) in
-    omega (arith, f .texts, w .1 .1)
+-- the arrays of a line that was read have room for its record
+arrays : (c : tie.After-enum-told) → (allSlots (formatOf (c .before .before .before .before .before .before .before .before .before .before .args .kind) .columns) ≤ length (c .before .before .before .before .before .read-row .result .flags)) × ((allSlots (formatOf (c .before .before .before .before .before .before .before .before .before .before .args .kind) .columns) ≤ length (c .before .before .before .before .before .read-row .result .values)) × (allTexts (formatOf (c .before .before .before .before .before .before .before .before .before .before .args .kind) .columns) ≤ length (c .before .before .before .before .before .read-row .result .text)))
+arrays c =
+    let a = c .before .before .before .before .before .before .before .before .before .before .args in
+    let f = c .before .before .before .before .before .before .before .format-of .ensures in
+    let r = c .before .before .before .before .before .read-row in
+    row-arrays (formatOf (a .kind)) (a .line .now) (a .out .now) (omega (arith, f .numbers, f .texts, c .before .before .before .before .before .before .if1 .left)) (r .result) (r .ensures) (f .fits) (c .enum-told .given .1)
 
 returns-2 : tie.Need-returns-2
 returns-2 c =
-    let a = c .before .before .before .before .before .before .before .before .before .before .before .args in
     let f = c .before .before .before .before .before .before .before .before .format-of .ensures in
-    row-into-refused (formatOf (a .kind)) (a .line .now) (a .out .now) (omega (arith, f .numbers, f .texts, c .before .before .before .before .before .before .before .if1 .left)) (c .before .before .before .before .before .before .read-row .result) (c .before .before .before .before .before .before .read-row .ensures) _ _ (c .before .read .given .1)
+    row-into-refused (formatOf _) _ _ (omega (arith, f .numbers, f .texts, c .before .before .before .before .before .before .before .if1 .left)) (c .before .before .before .before .before .before .read-row .result) (c .before .before .before .before .before .before .read-row .ensures) _ _ (c .before .read .given .1)
 
 returns-3 : tie.Need-returns-3
 returns-3 c =
-    let a = c .before .before .before .before .before .before .before .before .before .before .before .before .before .before .before .before .before .before .before .before .before .before .before .args in
     let f = c .before .before .before .before .before .before .before .before .before .before .before .before .before .before .before .before .before .before .before .before .format-of .ensures in
-    row-into-done (formatOf (a .kind)) (a .line .now) (a .out .now) (omega (arith, f .numbers, f .texts, c .before .before .before .before .before .before .before .before .before .before .before .before .before .before .before .before .before .before .before .if1 .left)) (c .before .before .before .before .before .before .before .before .before .before .before .before .before .before .before .before .before .before .read-row .result) (c .before .before .before .before .before .before .before .before .before .before .before .before .before .before .before .before .before .before .read-row .ensures) (f .fits) (c .before .before .before .before .before .before .before .before .before .before .before .before .before .before .before .before .before .before .before .before .format-of .result .numbers) (c .before .before .before .before .before .before .before .before .before .before .before .before .before .before .before .before .before .before .before .before .format-of .result .texts) _ (f .numbers) (f .texts) (omega (arith, f .numbers, f .texts)) (c .before .before .before .before .before .before .before .before .before .before .before .before .before .enum-told .given .1) (c .before .before .before .before .before .before .row-bytes .result) _ (c .before .before .before .before .before .before .row-bytes .ensures) (c .before .before .copy .ensures)
+    row-into-done (formatOf _) _ _ (omega (arith, f .numbers, f .texts, c .before .before .before .before .before .before .before .before .before .before .before .before .before .before .before .before .before .before .before .if1 .left)) (c .before .before .before .before .before .before .before .before .before .before .before .before .before .before .before .before .before .before .read-row .result) (c .before .before .before .before .before .before .before .before .before .before .before .before .before .before .before .before .before .before .read-row .ensures) (f .fits) (c .before .before .before .before .before .before .before .before .before .before .before .before .before .before .before .before .before .before .before .before .format-of .result .numbers) (c .before .before .before .before .before .before .before .before .before .before .before .before .before .before .before .before .before .before .before .before .format-of .result .texts) _ (f .numbers) (f .texts) (omega (arith, f .numbers, f .texts)) (c .before .before .before .before .before .before .before .before .before .before .before .before .before .enum-told .given .1) (c .before .before .before .before .before .before .row-bytes .result) _ (c .before .before .before .before .before .before .row-bytes .ensures) (c .before .before .copy .ensures)
 
 pub read-row-into-spec : {M : Type 1} → statement M
 read-row-into-spec =
@@ -62,13 +48,13 @@ read-row-into-spec =
     (λ c. search needs)
     (λ c. search needs)
     (λ c. search needs)
-    part-row-bytes-end
+    (λ c. omega (arith, c .before .before .before .before .before .before .before .before .format-of .ensures .numbers, arrays (c .before) .0))
     (λ c. search needs)
     (λ c. search needs)
-    part-row-bytes-end-2
+    (λ c. omega (arith, c .before .before .before .before .before .before .before .before .before .before .format-of .ensures .numbers, arrays (c .before .before .before) .1 .0))
     (λ c. search needs)
     (λ c. search needs)
-    part-row-bytes-end-3
+    (λ c. omega (arith, c .before .before .before .before .before .before .before .before .before .before .before .before .format-of .ensures .texts, arrays (c .before .before .before .before .before) .1 .1))
     (λ c κs. search needs)
     (λ c. search needs)
     (λ c. search needs)

@@ -23,18 +23,16 @@ write-cells-requires c κs =
 
 returns : tie.Need-returns
 returns c =
-    let a = c .before .before .before .before .before .before .before .before .before .before .before .before .before .before .before .before .before .before .before .before .before .before .before .before .before .before .before .before .before .before .before .before .before .before .args in
     let f = c .before .before .before .before .before .before .before .before .before .before .before .before .before .before .before .before .before .before .before .before .before .before .before .before .before .before .before .before .before .format-of .ensures in
     let p = c .before .before .before .before .before .before .before .before .before .before .before .before .before .before .before .before .before .before .before .before .before .before .before .before .before .before .before .before .before .before .before .before .before .before .pre in
-    let w = row-record (formatOf (a .kind)) (f .fits) (a .from .now) (length (a .from .now)) (p .0) refl (c .before .before .before .before .before .before .before .before .before .before .before .before .before .before .before .before .before .before .before .before .before .before .before .before .before .before .before .before .before .format-of .result .numbers) (length (a .values .now)) (f .numbers) (p .1 .1 .0) _ _ _ (a .text .now) (p .1 .1 .1) (c .before .before .before .before .before .before .before .before .before .before .before .before .before .before .before .before .before .before .before .before .before .before .before .before .get-numbers .ensures .0) (c .before .before .before .before .before .before .before .before .before .before .before .before .before .before .before .before .before .before .before .before .before .before .before .before .get-numbers .ensures .1) (c .before .before .before .before .before .before .before .before .before .before .before .before .before .before .before .before .before .before .copy .ensures) (a .out .now) (c .before .before .before .before .before .before .before .before .before .before .before .before .row-bytes .result) (c .before .before .before .before .before .before .before .before .before .before .before .before .row-bytes .ensures) (c .before .before .before .before .before .before .before .before .before .same .result) (c .before .before .before .before .before .before .before .before .before .same .ensures) (c .before .before .before .before .before .before .before .before .if1 .taken) (c .before .before .before .write-cells .result) _ (c .before .before .before .before .before .before .before .before .before .before .before .before .before .before .before .before .before .before .before .before .before .before .before .before .before .before .before .before .before .format-of .result .width) (f .width) (c .before .before .before .write-cells .ensures) in
+    let w = row-record (formatOf _) (f .fits) _ _ (p .0) refl (c .before .before .before .before .before .before .before .before .before .before .before .before .before .before .before .before .before .before .before .before .before .before .before .before .before .before .before .before .before .format-of .result .numbers) _ (f .numbers) (p .1 .1 .0) _ _ _ _ (p .1 .1 .1) (c .before .before .before .before .before .before .before .before .before .before .before .before .before .before .before .before .before .before .before .before .before .before .before .before .get-numbers .ensures .0) (c .before .before .before .before .before .before .before .before .before .before .before .before .before .before .before .before .before .before .before .before .before .before .before .before .get-numbers .ensures .1) (c .before .before .before .before .before .before .before .before .before .before .before .before .before .before .before .before .before .before .copy .ensures) _ (c .before .before .before .before .before .before .before .before .before .before .before .before .row-bytes .result) (c .before .before .before .before .before .before .before .before .before .before .before .before .row-bytes .ensures) (c .before .before .before .before .before .before .before .before .before .same .result) (c .before .before .before .before .before .before .before .before .before .same .ensures) (c .before .before .before .before .before .before .before .before .if1 .taken) (c .before .before .before .write-cells .result) _ (c .before .before .before .before .before .before .before .before .before .before .before .before .before .before .before .before .before .before .before .before .before .before .before .before .before .before .before .before .before .format-of .result .width) (f .width) (c .before .before .before .write-cells .ensures) in
     replied-is _ _ _ _ _ (c .reply-of .ensures) w
 
 returns-2 : tie.Need-returns-2
 returns-2 c =
-    let a = c .before .before .before .before .before .before .before .before .before .before .before .before .before .before .before .before .before .before .before .before .before .before .before .before .before .before .args in
     let f = c .before .before .before .before .before .before .before .before .before .before .before .before .before .before .before .before .before .before .before .before .before .format-of .ensures in
     let p = c .before .before .before .before .before .before .before .before .before .before .before .before .before .before .before .before .before .before .before .before .before .before .before .before .before .before .pre in
-    row-no-record (formatOf (a .kind)) (f .fits) (a .from .now) (length (a .from .now)) (p .0) refl (c .before .before .before .before .before .before .before .before .before .before .before .before .before .before .before .before .before .before .before .before .before .format-of .result .numbers) (length (a .values .now)) (f .numbers) (p .1 .1 .0) _ _ _ (a .text .now) (p .1 .1 .1) (c .before .before .before .before .before .before .before .before .before .before .before .before .before .before .before .before .get-numbers .ensures .0) (c .before .before .before .before .before .before .before .before .before .before .before .before .before .before .before .before .get-numbers .ensures .1) (c .before .before .before .before .before .before .before .before .before .before .copy .ensures) (a .out .now) (c .before .before .before .before .row-bytes .result) (c .before .before .before .before .row-bytes .ensures) (c .before .same .result) (c .before .same .ensures) (c .if1 .left)
+    row-no-record (formatOf _) (f .fits) _ _ (p .0) refl (c .before .before .before .before .before .before .before .before .before .before .before .before .before .before .before .before .before .before .before .before .before .format-of .result .numbers) _ (f .numbers) (p .1 .1 .0) _ _ _ _ (p .1 .1 .1) (c .before .before .before .before .before .before .before .before .before .before .before .before .before .before .before .before .get-numbers .ensures .0) (c .before .before .before .before .before .before .before .before .before .before .before .before .before .before .before .before .get-numbers .ensures .1) (c .before .before .before .before .before .before .before .before .before .before .copy .ensures) _ (c .before .before .before .before .row-bytes .result) (c .before .before .before .before .row-bytes .ensures) (c .before .same .result) (c .before .same .ensures) (c .if1 .left)
 
 pub write-named-spec : {M : Type 1} → statement M
 write-named-spec =

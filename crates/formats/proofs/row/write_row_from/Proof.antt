@@ -1,6 +1,5 @@
 use borrow.Author.Needs.{needs}
 use native.Mathlib.Omega.{arith}
-use lib.ListN.{length}
 use Rattle.columns.specs.Answer.{badForm}
 use Rattle.formats.specs.Format.{formatOf}
 use Rattle.formats.proofs.laws.CubeRecord.{replied-as, replied-refused}
@@ -10,15 +9,13 @@ use Rattle.formats.proofs.row.write_row_from.Tie as tie
 
 returns : tie.Need-returns
 returns c =
-    let a = c .before .before .before .before .args in
     let f = c .before .format-of .ensures in
-    replied-refused _ (a .out .now) badForm 0 (row-from-short (formatOf (a .kind)) (a .from .now) (length (a .out .now)) (omega (arith, f .numbers, f .texts, c .if1 .taken)))
+    replied-refused _ _ badForm 0 (row-from-short (formatOf _) _ _ (omega (arith, f .numbers, f .texts, c .if1 .taken)))
 
 returns-2 : tie.Need-returns-2
 returns-2 c =
-    let a = c .before .before .before .before .before .before .before .before .before .before .before .before .before .before .before .args in
     let f = c .before .before .before .before .before .before .before .before .before .before .before .before .format-of .ensures in
-    replied-as _ _ _ _ _ (row-from-named (formatOf (a .kind)) (a .from .now) _ (length (a .out .now)) (omega (arith, f .numbers, f .texts)) (c .before .before .before .before .before .before .before .before .before .before .before .if1 .left)) (c .before .before .before .before .before .write-named .ensures)
+    replied-as _ _ _ _ _ (row-from-named (formatOf _) _ _ _ (omega (arith, f .numbers, f .texts)) (c .before .before .before .before .before .before .before .before .before .before .before .if1 .left)) (c .before .before .before .before .before .write-named .ensures)
 
 pub write-row-from-spec : {M : Type 1} → statement M
 write-row-from-spec =

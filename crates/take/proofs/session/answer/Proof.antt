@@ -1,7 +1,6 @@
 use Rattle.take.proofs.laws.Text.{put-as}
 use Rattle.take.specs.Text.{answerLine}
 use mathlib.Core.Path.{ap}
-use Prim.Native.Nat.{_-_}
 use borrow.Author.Needs.{needs}
 use Rattle.take.proofs.session.answer.Statement.{statement}
 use Rattle.take.proofs.session.answer.Tie as tie

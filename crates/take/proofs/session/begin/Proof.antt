@@ -2,7 +2,7 @@ use Rattle.take.specs.Text.{heading}
 use Rattle.take.specs.Session.{opened}
 use native.Mathlib.Omega.{arith}
 use mathlib.Core.Path.{refl}
-use Prim.Native.Nat.{ℕ, _-_}
+use Prim.Native.Nat.{ℕ}
 use mathlib.Core.List.{List}
 use borrow.Author.Needs.{needs}
 use Rattle.take.proofs.session.begin.Statement.{statement}

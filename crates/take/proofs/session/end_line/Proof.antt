@@ -1,6 +1,5 @@
 use Rattle.take.proofs.laws.Steps.{end-none, end-some}
 use denote.Ref.{now}
-use Prim.Native.Nat.{_-_}
 use borrow.Author.Needs.{needs}
 use Rattle.take.proofs.session.end_line.Statement.{statement}
 use Rattle.take.proofs.session.end_line.Tie as tie

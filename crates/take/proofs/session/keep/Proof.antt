@@ -1,6 +1,5 @@
 use Rattle.take.proofs.laws.Steps.{kept-whole, kept-part}
 use denote.Ref.{now}
-use Prim.Native.Nat.{_-_}
 use borrow.Author.Needs.{needs}
 use Rattle.take.proofs.session.keep.Statement.{statement}
 use Rattle.take.proofs.session.keep.Tie as tie

@@ -1,6 +1,5 @@
 use Rattle.take.proofs.laws.Steps.{kept, answered}
 use denote.Ref.{now}
-use Prim.Native.Nat.{_-_}
 use borrow.Author.Needs.{needs}
 use Rattle.take.proofs.session.take_next.Statement.{statement}
 use Rattle.take.proofs.session.take_next.Tie as tie

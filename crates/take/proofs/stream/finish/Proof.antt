@@ -3,7 +3,6 @@ use Rattle.take.specs.Session.{Session, closed}
 use denote.Ref.{now}
 use native.Mathlib.Omega.{arith}
 use mathlib.Core.Path.{ap, _∙_}
-use Prim.Native.Nat.{_-_}
 use borrow.Author.Needs.{needs}
 use Rattle.take.proofs.stream.finish.Statement.{statement}
 use Rattle.take.proofs.stream.finish.Tie as tie

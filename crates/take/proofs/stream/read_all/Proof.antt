@@ -1,6 +1,6 @@
 use Rattle.take.proofs.laws.Steps.{passed-none, passed-more, taken-emptied}
 use Rattle.take.specs.Progress.{Passed}
-use Prim.Native.Nat.{_*_, _≤_, _-_, _+_}
+use Prim.Native.Nat.{_*_, _≤_, _+_}
 use denote.Ref.{now}
 use native.Mathlib.Omega.{arith}
 use mathlib.Core.Path.{_≡_, refl, _∙_}

@@ -1,5 +1,5 @@
 use Rattle.take.proofs.laws.Text.{put-more, put-as, digits-one, digits-more, digits-few, tenth}
-use Prim.Native.Nat.{_/_, ℕ, _<_, _-_, _+_}
+use Prim.Native.Nat.{_/_, ℕ, _<_, _-_}
 use borrow.Author.Needs.{needs}
 use native.Mathlib.Omega.{arith}
 use mathlib.Core.Path.{sym, _∙_}

@@ -1,7 +1,6 @@
 use Rattle.take.proofs.laws.Text.{put-more}
 use Rattle.take.specs.Text.{answerLine}
 use native.Mathlib.Omega.{arith}
-use Prim.Native.Nat.{_-_}
 use borrow.Author.Needs.{needs}
 use Rattle.take.proofs.text.put_answer.Statement.{statement}
 use Rattle.take.proofs.text.put_answer.Tie as tie

@@ -1,6 +1,5 @@
 use Rattle.take.proofs.laws.Text.{put-one}
 use denote.Ref.{now}
-use Prim.Native.Nat.{_-_}
 use borrow.Author.Needs.{needs}
 use Rattle.take.proofs.text.put_byte.Statement.{statement}
 use Rattle.take.proofs.text.put_byte.Tie as tie

@@ -1,6 +1,5 @@
 use Rattle.take.proofs.laws.Text.{put-all}
 use denote.Ref.{now}
-use Prim.Native.Nat.{_-_}
 use borrow.Author.Needs.{needs}
 use Rattle.take.proofs.text.put_bytes.Statement.{statement}
 use Rattle.take.proofs.text.put_bytes.Tie as tie

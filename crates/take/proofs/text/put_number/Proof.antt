@@ -1,7 +1,6 @@
 use Rattle.take.proofs.laws.Text.{decimal-few}
 use Rattle.take.specs.Text.{decimal}
 use native.Mathlib.Omega.{arith}
-use Prim.Native.Nat.{_-_}
 use borrow.Author.Needs.{needs}
 use Rattle.take.proofs.text.put_number.Statement.{statement}
 use Rattle.take.proofs.text.put_number.Tie as tie

@@ -5,7 +5,6 @@ use Prim.Native.Nat.{_≤_, _+_}
 use lib.ListN.{length, take}
 use lib.Seq.{slice}
 use Rattle.columns.specs.Column.{Col, width, groupWidth}
-use Rattle.columns.specs.Number.{intField, decField}
 use Rattle.columns.specs.Table.{rangeAt, ruleAt, groupAt, colOf, slotsOf}
 use Rattle.columns.proofs.laws.Table.{good-number, good-text, good-of-group, col-integer, col-decimal, col-text, col-letter, col-group, col-blank}
 use Rattle.columns.proofs.laws.Form.{good-int, good-dec, form-integer, form-decimal}
