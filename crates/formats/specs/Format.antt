@@ -53,9 +53,7 @@ placeOf kind = placeIn kind (length phaseColumns) otherFormats
 unfoldable pub formatOf : ℕ → RowFormat
 formatOf kind = placeOf kind .format
 
--- ---- helping definitions about the code
-
--- the row of its table where a format begins
+-- the row of the code's table where a format begins
 unfoldable pub firstRow : ℕ → ℕ
 firstRow kind = placeOf kind .first
 

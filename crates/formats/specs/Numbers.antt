@@ -23,17 +23,17 @@ abbrev pub readKind : Read → ℕ
 readKind (L.There kind type address text) = kind
 readKind (L.Refused n k) = 0
 
-abbrev pub readType : Read → ℕ
-readType (L.There kind type address text) = type
-readType (L.Refused n k) = 0
+abbrev pub readTypeLength : Read → ℕ
+readTypeLength (L.There kind type address text) = type
+readTypeLength (L.Refused n k) = 0
 
-abbrev pub readAddress : Read → ℕ
-readAddress (L.There kind type address text) = address
-readAddress (L.Refused n k) = 0
+abbrev pub readAddressLength : Read → ℕ
+readAddressLength (L.There kind type address text) = address
+readAddressLength (L.Refused n k) = 0
 
-abbrev pub readText : Read → ℕ
-readText (L.There kind type address text) = text
-readText (L.Refused n k) = 0
+abbrev pub readTextLength : Read → ℕ
+readTextLength (L.There kind type address text) = text
+readTextLength (L.Refused n k) = 0
 
 -- ---- a call that writes into a lent place, and the bytes that it wrote or the place after them
 

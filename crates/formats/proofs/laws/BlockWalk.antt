@@ -1,5 +1,5 @@
--- Laws of walking a block: each answer as the code comes to it; and a walk of a block that is read meets exactly its phase lines
--- and comments, in order, and ends where the bytes used end.
+-- Laws of walking a block: a line that was found, as the code comes to it; and a walk of a block that is read meets exactly its
+-- phase lines and comments, in order, and ends where the bytes used end.
 use Prim.Native.Nat.{ℕ, zero, suc, _+_, _-_, _≤_, _<_}
 use mathlib.Core.Path.{_≡_, refl, sym, ap, _∙_}
 use mathlib.Core.Bool.{Bool, true, false}

@@ -1,4 +1,4 @@
--- Each answer of a CUBE line, as the code comes to it.
+-- What a CUBE line that is read says, by its type, and what the code returns for it.
 use mathlib.Core.Path.{_≡_, refl, ap, _∙_}
 use mathlib.Core.Bool.{Bool, true, false}
 use mathlib.Core.List.{List, [], _++_}

@@ -92,27 +92,23 @@ event-bound l =
     pick-bound 80 (differs (length l) 80) _ _ (omega arith)
     (pick-bound 80 (differs (lowestBarred (take 79 l)) 0) _ _ b (pick-bound 80 (differs (getD l 79 0) (checkCharacter (take 79 l))) _ _ (omega arith) c))
 
-long-case : (t : Bool) (l : List ℕ) (x : Answer Message) → ltb 80 (length l) ≡ t → (length l ≤ 80 → columnOf x ≤ 80) → columnOf (unless t 1 0 x) ≤ 80
-long-case true l x e f = omega arith
-long-case false l x e f = f (ltb-false 80 (length l) e)
+-- a test on a length, before what holds of bytes within the limit
+limit-case : {A : Type 0} (m most : ℕ) (t : Bool) (s : List ℕ) (x : Answer A) → ltb most (length s) ≡ t → (length s ≤ most → columnOf x ≤ m) → columnOf (unless t 1 0 x) ≤ m
+limit-case m most true s x e f = omega arith
+limit-case m most false s x e f = f (ltb-false most (length s) e)
 
 delete-bound : (l : List ℕ) → columnOf (readDelete l) ≤ 80
 unfolding readDelete
 delete-bound l =
     pick-bound 80 (ltb (length l) 13) _ _ (omega arith)
-    (long-case (ltb 80 (length l)) l _ refl
+    (limit-case 80 80 (ltb 80 (length l)) l _ refl
     (λ h. pick-bound 80 (differs (lowestBarred l) 0) (refusal barredByte (lowestBarred l)) (ok (delete (take 11 (drop 2 l)) (drop 13 l))) (omega (arith, barred-bound 3 13 0 l)) (omega arith)))
-
--- a test on the length of an LI line, before what holds of a line of up to 255 bytes
-low-case : {A : Type 0} (t : Bool) (l : List ℕ) (x : Answer A) → ltb 255 (length l) ≡ t → (length l ≤ 255 → columnOf x ≤ 255) → columnOf (unless t 1 0 x) ≤ 255
-low-case true l x e f = omega arith
-low-case false l x e f = f (ltb-false 255 (length l) e)
 
 link-bound : (l : List ℕ) → columnOf (readLink l) ≤ 255
 unfolding readLink linkParts
 link-bound l =
     pick-bound 255 (ltb (length l) 20) _ _ (omega arith)
-    (low-case (ltb 255 (length l)) l _ refl
+    (limit-case 255 255 (ltb 255 (length l)) l _ refl
     (λ h. pick-bound 255 (differs (linkBarred l) 0) (refusal barredByte (linkBarred l)) _ (omega (arith, barred-bound 3 14 0 l)) (pick-bound 255 (eqb (getD l 14 0) 32 && formed (typeOf l) (addressOf l) (textOf l)) _ _ (omega arith) (omega arith))))
 
 pub line-bound : (l : List ℕ) → columnOf (readLine l) ≤ 255
@@ -134,15 +130,11 @@ as-sealed : (a : Answer (List ℕ)) → columnOf a ≤ 80 → columnOf (sealedAn
 as-sealed (ok ys) h = h
 as-sealed (refusal n k) h = h
 
-text-case : (t : Bool) (s : List ℕ) (x : Answer (List ℕ)) → ltb 67 (length s) ≡ t → (length s ≤ 67 → columnOf x ≤ 80) → columnOf (unless t 1 0 x) ≤ 80
-text-case true s x e f = omega arith
-text-case false s x e f = f (ltb-false 67 (length s) e)
-
 put-bound : (l : List ℕ) (f : Bool) (room : ℕ) → columnOf (putLink l f room) ≤ 255
 unfolding putLink
 put-bound l f room =
     pick-bound 255 (ltb (length l) 20) _ _ (omega arith)
-    (low-case (ltb 255 (length l)) l _ refl
+    (limit-case 255 255 (ltb 255 (length l)) l _ refl
     (λ h. pick-bound 255 (ltb room (length l)) _ _ (omega arith)
     (pick-bound 255 (differs (linkBarred l) 0) (refusal barredByte (linkBarred l)) _ (omega (arith, barred-bound 3 14 0 l)) (pick-bound 255 f (ok l) (refusal badForm 15) (omega arith) (omega arith)))))
 
@@ -155,7 +147,7 @@ module _ (r : List ℕ) (room : ℕ) where
   event-or-delete false =
       let s : List ℕ = take (getD r 1 0) (drop 13 r) in
       let l : List ℕ = take 11 (drop 2 r) ++ take (getD r 1 0) (drop 13 r) in
-      text-case (ltb 67 (length (take (getD r 1 0) (drop 13 r)))) (take (getD r 1 0) (drop 13 r)) _ refl
+      limit-case 80 67 (ltb 67 (length (take (getD r 1 0) (drop 13 r)))) (take (getD r 1 0) (drop 13 r)) _ refl
       (λ h. pick-bound 80 (ltb room (13 + length (take (getD r 1 0) (drop 13 r)))) _ _ (omega arith)
       (pick-bound 80 (differs (barred 3 13 3 l) 0) (refusal barredByte (barred 3 13 3 l)) (ok (68 ∷ 69 ∷ l)) (omega (arith, barred-bound 3 13 2 l, length-append (take 11 (drop 2 r)) (take (getD r 1 0) (drop 13 r)), length-take 11 (drop 2 r), h)) (omega arith)))
 
@@ -199,6 +191,10 @@ abbrev pub sizeOf : Answer (List ℕ) → ℕ
 sizeOf (ok ys) = length ys
 sizeOf (refusal n k) = 0
 
+pub size-bound : (m : ℕ) (a : Answer (List ℕ)) → ((ys : List ℕ) → a ≡ ok ys → length ys ≤ m) → sizeOf a ≤ m
+size-bound m (ok ys) f = f ys refl
+size-bound m (refusal n k) f = omega arith
+
 pub into-size : (l : List ℕ) (room : ℕ) → sizeOf (readInto l room) ≤ 268
 unfolding readInto
 into-size l room = by-test (ltb room recordSize)
@@ -229,8 +225,4 @@ written-size r room ys e =
     line-size (take 268 r) n room (eqb (getD (take 268 r) 0 0) 1) (eqb (getD (take 268 r) 0 0) 4) ys (ap (λ (m : Message). writeMessage m room) (w .named) ∙ t .wrote)
 
 pub from-size : (r : List ℕ) (room : ℕ) → sizeOf (writeFrom r room) ≤ 255
-from-size r room = by-answer (writeFrom r room) refl
-  where
-    by-answer : (a : Answer (List ℕ)) → writeFrom r room ≡ a → sizeOf a ≤ 255
-    by-answer (ok ys) e = written-size r room ys e
-    by-answer (refusal n k) e = omega arith
+from-size r room = size-bound 255 (writeFrom r room) (written-size r room)

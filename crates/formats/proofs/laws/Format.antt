@@ -88,6 +88,15 @@ format-fits kind = format-known kind .fits
 pub header-fine : (kind : ℕ) → HeaderFine (formatOf kind .header)
 header-fine kind = format-known kind .header
 
+-- each format is the one that its record's kind names
+abbrev pub named : List RowFormat → List RowFormat
+named [] = []
+named (F ∷ Fs) = formatOf (F .kind) ∷ named Fs
+
+pub kinds-name : named (phaseFormat ∷ otherFormats) ≡ phaseFormat ∷ otherFormats
+unfolding formatOf
+kinds-name = refl
+
 -- ---- a format and a header as the code gives them for a kind
 
 module _ (kind : ℕ) (F : RowFormat) (first : ℕ) (p : placeOf kind ≡ placeAt F first) where

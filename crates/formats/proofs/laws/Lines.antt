@@ -1,4 +1,4 @@
--- Laws of lines: where a line ends, and the lines from there on.
+-- Laws of bytes up to the first of a code, and of lines: where a line ends, and the lines from there on.
 use Prim.Native.Nat.{ℕ, zero, suc, _+_, _-_, _≤_, _<_}
 use mathlib.Core.Path.{_≡_, refl, sym, _∙_, ap}
 use mathlib.Core.Bool.{Bool, true, false, not, _&&_, false≢true}

@@ -1,4 +1,4 @@
--- Each answer of an LI line, read and written, as the code comes to it, and the bytes that the code lays.
+-- The parts of an LI line, read and written, as the code comes to them, and the bytes that the code lays.
 use mathlib.Core.Path.{_≡_, refl, sym, ap, _∙_}
 use mathlib.Core.Bool.{Bool, true, false}
 use mathlib.Core.List.{List, [], _∷_, _++_, append-assoc}

@@ -1,12 +1,13 @@
--- Laws of a row's line, over its list of columns: each answer as the code comes to it; every record that is written reads back
+-- Laws of a row's line, over its list of columns: what a line that was read has passed; every record that is written reads back
 -- the same, and every record that was read is written.
 use mathlib.Core.Path.{_≡_, refl, sym, ap, _∙_}
 use mathlib.Core.Bool.{true, false}
 use mathlib.Core.Logic.{inl, inr}
-use mathlib.Core.List.{List, [], _∷_}
-use Prim.Native.Nat.{ℕ, zero, suc, _+_, _-_, _≤_, _<_}
+use mathlib.Core.List.{List, [], _∷_, _++_, append-assoc}
+use Prim.Native.Nat.{ℕ, _+_, _-_, _≤_, _<_}
 use native.Mathlib.Omega.{arith}
-use lib.ListN.{length, take, drop, getD, replicate, length-append, length-drop, length-replicate, getD-replicate}
+use lib.ListN.{length, take, drop, getD, replicate, length-append, length-drop, length-replicate, getD-replicate, replicate-append-replicate}
+use lib.Seq.{take-at, drop-append-le}
 use lib.IntN.{ℤ, pos}
 use lib.Dec.{ltb, eqb}
 use borrow.Author.Tests.{le-ltb, lt-ltb, ltb-false, le-leb, lt-leb}
@@ -33,23 +34,18 @@ pub row-columns : (cs : List Col) (l : List ℕ) → length l ≤ widths cs → 
 unfolding readRow
 row-columns cs l h e = rw (le-ltb (widths cs) (length l) h, differs-not (lowestBarredByte l) 0 e)
 
--- a line over the blanks of an array that is longer than the full width
-blanks-take : (w n : ℕ) → w ≤ n → _≡_ {A = List ℕ} (take w (replicate n 32)) (replicate w 32)
-blanks-take zero n h = refl
-blanks-take (suc w) zero h = absurd (omega arith)
-blanks-take (suc w) (suc n) h = ap (λ (s : List ℕ). 32 ∷ s) (blanks-take w n (omega arith))
-
-over-take : (l : List ℕ) (w n : ℕ) → length l ≤ w → w ≤ n → take w (blankFilled n l) ≡ blankFilled w l
-over-take [] w n h k = blanks-take w n k
-over-take (b ∷ l) zero n h k = absurd (omega arith)
-over-take (b ∷ l) (suc w) zero h k = absurd (omega arith)
-over-take (b ∷ l) (suc w) (suc n) h k = ap (λ (s : List ℕ). b ∷ s) (over-take l w n (omega arith) (omega arith))
-
-pub filled-part : (l : List ℕ) (w v n : ℕ) → v ≡ w → length l ≤ w → w ≤ n → take (v - 0) (drop 0 (blankFilled n l)) ≡ blankFilled w l
-filled-part l w v n e h k = let z : v - 0 ≡ w = omega arith in rw z (over-take l w n h k)
-
 pub filled-size : (w : ℕ) (l : List ℕ) → length l ≤ w → length (blankFilled w l) ≡ w
 filled-size w l h = length-append l (drop (length l) (replicate w 32)) ∙ omega (arith, length-drop {A = ℕ} (length l) (replicate w 32), length-replicate {A = ℕ} w 32)
+
+-- a line over the blanks of an array that is longer than the full width
+pub filled-part : (l : List ℕ) (w v n : ℕ) → v ≡ w → length l ≤ w → w ≤ n → take (v - 0) (drop 0 (blankFilled n l)) ≡ blankFilled w l
+filled-part l w v n e h k =
+    let z : v - 0 ≡ w = omega arith in
+    let m : w + (n - w) ≡ n = omega arith in
+    let a : List ℕ = replicate w 32 in
+    let b : List ℕ = replicate (n - w) 32 in
+    let s : replicate n 32 ≡ a ++ b = sym (replicate-append-replicate w (n - w) 32 ∙ rw m) in
+    rw (z, s, drop-append-le (length l) a b (omega (arith, length-replicate {A = ℕ} w 32)), ← append-assoc l (drop (length l) a) b) (take-at (blankFilled w l) b w (filled-size w l h))
 
 -- what was read, in the arrays
 pub row-is : (a : Answer Rec) {f : List ℕ} {v : List ℤ} {t : List ℕ} → Whole a (replicate 40 0) f (replicate 40 (pos 0)) v (replicate 160 0) t → record { read = O.Done; flags = f; values = v; text = t } ≡ rowOf a

@@ -26,7 +26,7 @@ use Rattle.formats.specs.Row.{RowFormat, readRow, writeRow, rowBytes, ro
 use Rattle.columns.proofs.laws.Bytes.{same-is, same-self}
 use Rattle.columns.proofs.laws.Word.{word-length, word-back}
 use Rattle.formats.proofs.laws.Record.{numbers-length, bytes-length}
-use Rattle.formats.proofs.laws.CubeRecordBack.{sizeOf}
+use Rattle.formats.proofs.laws.CubeRecordBack.{sizeOf, size-bound}
 use Rattle.formats.proofs.laws.Row.{row-back, row-size, row-accepted, row-bound}
 use Rattle.formats.proofs.laws.RowRecord.{row-bytes-length, row-into-read}
 
@@ -196,8 +196,4 @@ module _ (F : RowFormat) (f : Fits (F .columns)) where
       by-test false = by-line (readRow (F .columns) l) refl
 
   pub row-from-size : (r : List ℕ) (room : ℕ) → sizeOf (writeRowFrom F r room) ≤ widths (F .columns)
-  row-from-size r room = by-answer (writeRowFrom F r room) refl
-    where
-      by-answer : (a : Answer (List ℕ)) → writeRowFrom F r room ≡ a → sizeOf a ≤ widths (F .columns)
-      by-answer (ok ys) e = omega (arith, row-written r ys room e .size)
-      by-answer (refusal n k) e = omega arith
+  row-from-size r room = size-bound (widths (F .columns)) (writeRowFrom F r room) (λ ys e. omega (arith, row-written r ys room e .size))

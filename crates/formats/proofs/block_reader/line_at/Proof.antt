@@ -14,4 +14,11 @@ returns-3 c =
     rw (q, lt-leb _ _ (c .before .before .if1 .left)) (rw (le-ltb _ _ (rw q at (c .if2 .left))))
 
 pub line-at-spec : {M : Type 1} → statement M
-line-at-spec = tie.close (tie.spec (λ c. rw (le-leb _ _ (c .if1 .taken))) (λ c κs. search needs) (λ c. search needs) returns-2 returns-3)
+line-at-spec =
+    tie.close
+    (tie.spec
+    (λ c. rw (le-leb _ _ (c .if1 .taken)))
+    (λ c κs. search needs)
+    (λ c. search needs)
+    returns-2
+    returns-3)

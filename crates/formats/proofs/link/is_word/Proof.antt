@@ -11,4 +11,9 @@ unfolding endFrom
 returns-2 c = word-is (c .before .before .before .args .s .now) (c .before .if1 .left) _ (c .scan-end .ensures .0 ∙ omega arith)
 
 pub is-word-spec : {M : Type 1} → statement M
-is-word-spec = tie.close (tie.spec (λ c. word-none (c .before .before .args .s .now) (c .if1 .taken)) (λ c κs. search needs) returns-2)
+is-word-spec =
+    tie.close
+    (tie.spec
+    (λ c. word-none (c .before .before .args .s .now) (c .if1 .taken))
+    (λ c κs. search needs)
+    returns-2)
