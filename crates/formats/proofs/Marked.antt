@@ -7,8 +7,7 @@ use Rattle.columns.specs.Answer.{Answer, ok, refusal, badForm, tooWide}
 use Rattle.columns.specs.Column.{Slot, missing, given, Rec}
 use Rattle.columns.specs.Reading.{readCell}
 use Rattle.columns.specs.Writing.{writeCell}
-use Rattle.columns.proofs.laws.Marked.{f51}
-use Rattle.columns.proofs.laws.Marked.{marked as fields}
+use Rattle.columns.proofs.laws.Marked.{f51, marked as fields}
 use Rattle.formats.specs.Check.{checkSum, checkCharacter}
 
 -- what is asked of the field or of some bytes, and what is answered: a number, the number of a refusal, a character

@@ -8,10 +8,9 @@ use native.Mathlib.Omega.{arith}
 use lib.Dec.{ltb}
 use lib.ListN.{length, take, drop}
 use borrow.Author.Tests.{lt-ltb, le-ltb}
-use Rattle.columns.specs.Answer.{pick, Answer, ok, refusal}
+use Rattle.columns.specs.Answer.{pick, Answer, ok, refusal, wrongLength}
 use Rattle.columns.specs.Column.{Rec}
 use Rattle.columns.specs.Table.{outcomeOf}
-use Rattle.columns.specs.Answer.{wrongLength}
 use Rattle.formats.specs.Lines.{linesOf, lineEnd}
 use Rattle.formats.specs.Block.{Kind, closing, comment, row, kindOf, isHeader, readComment, outOfPlace, plus, onLine, withNewline, readLine, readLines, readHeaded, atMost, readBlockBy}
 use Rattle.formats.specs.BlockSteps.{counted, stepOf}

@@ -7,12 +7,11 @@ use native.Mathlib.Omega.{arith}
 use lib.Dec.{eqb, ltb}
 use lib.ListN.{length}
 use borrow.Author.Tests.{lt-ltb, le-ltb, lt-leb, le-leb}
-use Rattle.columns.specs.Answer.{pick, Answer, ok, refusal, barredByte}
+use Rattle.columns.specs.Answer.{pick, Answer, ok, refusal, barredByte, differs, wrongLength}
 use Rattle.columns.specs.Column.{Rec}
 use Rattle.columns.specs.Row.{Fits}
 use Rattle.columns.proofs.laws.Bounds.{columnOf, pick-bound, barred-bound}
-use Rattle.columns.specs.Answer.{differs, wrongLength}
-use Rattle.formats.specs.Row.{RowFormat, lowestBarredByte}
+use Rattle.formats.specs.Row.{RowFormat, lowestBarredByte, writeRowFrom}
 use Rattle.formats.specs.Lines.{onFirst, linesOf, lineEnd}
 use Rattle.formats.specs.Block.{Kind, closing, comment, row, kindOf, isHeader, trimEnd, lastByte, readComment, outOfPlace, plus, onLine, withNewline, readLine, readLines, readHeaded, atMost, readBlockBy, readBlock}
 use Rattle.formats.proofs.laws.BlockReader.{next-range}
@@ -22,7 +21,6 @@ use Rattle.formats.proofs.laws.RowRecordBack.{row-from-bound}
 use Rattle.formats.specs.BlockReader.{lineOf, nextOf}
 use Rattle.formats.specs.BlockWalk.{noLine, headerLine, commentLine, nothing, known, headed, firstLine, lineAfter, nextLine}
 use Rattle.formats.specs.BlockWriting.{ended, writeHeader, roomFrom, headerCall, recordCall}
-use Rattle.formats.specs.Row.{writeRowFrom}
 use Rattle.formats.specs.declared.block_walk.BlockLine.{BlockLine}
 use Rattle.formats.specs.declared.block.Block.{Block}
 use Rattle.formats.specs.declared.block.Block.the-variants as B

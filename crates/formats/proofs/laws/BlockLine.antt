@@ -8,8 +8,7 @@ use lib.Dec.{eqb}
 use lib.ListN.{length, take, drop, getD}
 use borrow.Author.Tests.{eq-eqb, ne-eqb}
 use Rattle.columns.specs.Answer.{pick}
-use Rattle.columns.specs.Bytes.{isNone}
-use Rattle.columns.specs.Bytes.{sameBytes}
+use Rattle.columns.specs.Bytes.{isNone, sameBytes}
 use Rattle.formats.specs.Block.{isHeader, kindOf, closing, comment, row, beforeTrimmed, trimEnd, lastByte, beginsComment}
 use Rattle.columns.specs.Table.{over}
 use Rattle.formats.proofs.laws.RowRecord.{over-part}

@@ -7,17 +7,17 @@ use lib.ListN.{length, take, getD, length-append, drop, length-drop, take-append
 use lib.Dec.{ltb, eqb}
 use borrow.Author.Tests.{ltb-false, eqb-true}
 use lib.Seq.{take-at, drop-at, getD-at, length-take-le, drop-drop, take-add, take-take}
-use Rattle.columns.specs.Answer.{Answer, ok, refusal, barredByte, tooShort, unless, differs, wrongLength}
+use Rattle.columns.specs.Answer.{Answer, ok, refusal, barredByte, tooShort, differs, wrongLength}
 use Rattle.columns.specs.Bytes.{barred}
 use Rattle.columns.specs.Column.{Slot, Rec}
-use Rattle.columns.specs.Writing.{writeColumns}
+use Rattle.columns.specs.Writing.{writeColumns, inPlace}
 use Rattle.formats.specs.Check.{checkCharacter}
-use Rattle.formats.specs.Cube.{eventColumns, event, delete, link, sealed, sealedAnswer, lowestBarred, readLine, asEvent, writeMessage, Message, readEvent, readDelete, wrongCheck}
+use Rattle.formats.specs.Cube.{eventColumns, event, delete, link, sealed, sealedAnswer, lowestBarred, readLine, asEvent, eventWritten, deleteWritten, deleteParts, writeMessage, Message, readEvent, readDelete}
 use Rattle.columns.proofs.laws.Columns.{Line, columns-back, columns-more-bytes}
 use Rattle.columns.proofs.laws.Stretch.{clean-line, barred-split, barred-cons, line-clean}
 use Rattle.columns.proofs.laws.Answers.{passed, differs-same}
 use Rattle.columns.proofs.laws.Tests.{both-true}
-use Rattle.formats.proofs.laws.Cube.{line-event, event-columns, line-delete, delete-read, Came, by-event, by-delete, by-link, came}
+use Rattle.formats.proofs.laws.Cube.{line-event, event-columns, event-read, line-delete, delete-read, text-read, Came, by-event, by-delete, by-link, came}
 use Rattle.columns.specs.Reading.{readColumns}
 use Rattle.columns.proofs.laws.Accepted.{columns-accepted}
 use Rattle.formats.proofs.laws.EventColumns.{event-sound}
@@ -68,51 +68,49 @@ module _ (ns : List Slot) (t zs : List ℕ) (a : length ns ≡ 19) (b : length t
       ∙ event-columns (sealed zs) n event-clear c
       ∙ ap asEvent (columns-more-bytes eventColumns [] 2 zs (checkCharacter (69 ∷ 32 ∷ zs) ∷ []) (omega (arith, event-width, event-sound .wide)) ∙ event-line .back)
 
-pub event-back : (ns : List Slot) (t ys : List ℕ) (room : ℕ) → length ns ≡ 19 → length t ≡ 13 → writeMessage (event ns t) room ≡ ok ys → readLine ys ≡ ok (event ns t)
+event-wrote : (ns : List Slot) (t ys : List ℕ) (room : ℕ) → writeMessage (event ns t) room ≡ ok ys → Sealed (writeColumns eventColumns [] 2 ns t) ys
 unfolding writeMessage
+event-wrote ns t ys room e = sealed-of (writeColumns eventColumns [] 2 ns t) ys (passed (ltb room 80) tooShort 0 (eventWritten ns t) ys e .1)
+
+pub event-back : (ns : List Slot) (t ys : List ℕ) (room : ℕ) → length ns ≡ 19 → length t ≡ 13 → writeMessage (event ns t) room ≡ ok ys → readLine ys ≡ ok (event ns t)
 event-back ns t ys room a b e =
-    let p = passed (ltb room 80) tooShort 0 (sealedAnswer (writeColumns eventColumns [] 2 ns t)) ys e in
-    let s = sealed-of (writeColumns eventColumns [] 2 ns t) ys (p .1) in
+    let s = event-wrote ns t ys room e in
     ap readLine (sym (s .is)) ∙ event-sealed ns t (s .columns) a b (s .wrote)
 
 pub event-size : (ns : List Slot) (t ys : List ℕ) (room : ℕ) → length ns ≡ 19 → length t ≡ 13 → writeMessage (event ns t) room ≡ ok ys → length ys ≡ 80
-unfolding writeMessage
 event-size ns t ys room a b e =
-    let p = passed (ltb room 80) tooShort 0 (sealedAnswer (writeColumns eventColumns [] 2 ns t)) ys e in
-    let s = sealed-of (writeColumns eventColumns [] 2 ns t) ys (p .1) in
+    let s = event-wrote ns t ys room e in
     ap length (sym (s .is)) ∙ omega (arith, head-length ns t (s .columns) a b (s .wrote), length-append (69 ∷ 32 ∷ s .columns) (checkCharacter (69 ∷ 32 ∷ s .columns) ∷ []))
 
 -- ---- a delete
 
-pub delete-size : (names t ys : List ℕ) (room : ℕ) → length names ≡ 11 → writeMessage (delete names t) room ≡ ok ys → length ys ≡ 13 + length t
-unfolding writeMessage
-delete-size names t ys room n e =
-    let p = passed (ltb 67 (length t)) wrongLength 0 (unless (ltb room (13 + length t)) tooShort 0 (unless (differs (barred 3 13 3 (names ++ t)) 0) barredByte (barred 3 13 3 (names ++ t)) (ok (68 ∷ 69 ∷ (names ++ t))))) ys e in
-    let q = passed (ltb room (13 + length t)) tooShort 0 (unless (differs (barred 3 13 3 (names ++ t)) 0) barredByte (barred 3 13 3 (names ++ t)) (ok (68 ∷ 69 ∷ (names ++ t)))) ys (p .1) in
-    let r = passed (differs (barred 3 13 3 (names ++ t)) 0) barredByte (barred 3 13 3 (names ++ t)) (ok (68 ∷ 69 ∷ (names ++ t))) ys (q .1) in
-    let i : 68 ∷ 69 ∷ (names ++ t) ≡ ys = cc (r .1) in
-    ap length (sym i) ∙ omega (arith, length-append names t)
+module _ (names t ys : List ℕ) (room : ℕ) (n : length names ≡ 11) (e : writeMessage (delete names t) room ≡ ok ys) where
+  record Deleted : Type 0 where
+    low : length t ≤ 67
+    clear : barred 3 13 3 (names ++ t) ≡ 0
+    is : 68 ∷ 69 ∷ (names ++ t) ≡ ys
 
-pub delete-low-size : (names t ys : List ℕ) (room : ℕ) → length names ≡ 11 → writeMessage (delete names t) room ≡ ok ys → length ys ≤ 80
-unfolding writeMessage
-delete-low-size names t ys room n e =
-    let p = passed (ltb 67 (length t)) wrongLength 0 (unless (ltb room (13 + length t)) tooShort 0 (unless (differs (barred 3 13 3 (names ++ t)) 0) barredByte (barred 3 13 3 (names ++ t)) (ok (68 ∷ 69 ∷ (names ++ t))))) ys e in
-    omega (arith, delete-size names t ys room n e, ltb-false 67 (length t) (p .0))
+  deleted : Deleted
+  unfolding writeMessage
+  deleted =
+      let p = passed (ltb 67 (length t)) wrongLength 0 (inPlace room (13 + length t) (deleteWritten names t)) ys e in
+      let q = passed (ltb room (13 + length t)) tooShort 0 (deleteWritten names t) ys (p .1) in
+      let r = passed (differs (barred 3 13 3 (names ++ t)) 0) barredByte (barred 3 13 3 (names ++ t)) (ok (68 ∷ 69 ∷ (names ++ t))) ys (q .1) in
+      record { low = ltb-false 67 (length t) (p .0); clear = differs-same (barred 3 13 3 (names ++ t)) 0 (r .0); is = cc (r .1) }
 
-pub delete-back : (names t ys : List ℕ) (room : ℕ) → length names ≡ 11 → writeMessage (delete names t) room ≡ ok ys → readLine ys ≡ ok (delete names t)
-unfolding writeMessage
-delete-back names t ys room n e =
-    let l : List ℕ = 68 ∷ 69 ∷ (names ++ t) in
-    let p = passed (ltb 67 (length t)) wrongLength 0 (unless (ltb room (13 + length t)) tooShort 0 (unless (differs (barred 3 13 3 (names ++ t)) 0) barredByte (barred 3 13 3 (names ++ t)) (ok (68 ∷ 69 ∷ (names ++ t))))) ys e in
-    let q = passed (ltb room (13 + length t)) tooShort 0 (unless (differs (barred 3 13 3 (names ++ t)) 0) barredByte (barred 3 13 3 (names ++ t)) (ok (68 ∷ 69 ∷ (names ++ t)))) ys (p .1) in
-    let r = passed (differs (barred 3 13 3 (names ++ t)) 0) barredByte (barred 3 13 3 (names ++ t)) (ok (68 ∷ 69 ∷ (names ++ t))) ys (q .1) in
-    let i : 68 ∷ 69 ∷ (names ++ t) ≡ ys = cc (r .1) in
-    let m : length (names ++ t) ≡ 11 + length t = length-append names t ∙ omega arith in
-    let f : length t ≤ 67 = ltb-false 67 (length t) (p .0) in
-    ap readLine (sym i)
-    ∙ line-delete (68 ∷ 69 ∷ (names ++ t)) (omega arith) refl refl
-    ∙ delete-read (68 ∷ 69 ∷ (names ++ t)) (omega (arith, m)) (omega (arith, m, f)) (barred-cons 3 13 1 68 (69 ∷ (names ++ t)) refl ∙ barred-cons 3 13 2 69 (names ++ t) refl ∙ differs-same (barred 3 13 3 (names ++ t)) 0 (r .0))
-    ∙ ap ok (rw (take-at names t 11 n, drop-at names t 11 n))
+  pub delete-size : length ys ≡ 13 + length t
+  delete-size = ap length (sym (deleted .is)) ∙ omega (arith, length-append names t)
+
+  pub delete-low-size : length ys ≤ 80
+  delete-low-size = omega (arith, delete-size, deleted .low)
+
+  pub delete-back : readLine ys ≡ ok (delete names t)
+  delete-back =
+      let m : length (names ++ t) ≡ 11 + length t = length-append names t ∙ omega arith in
+      ap readLine (sym (deleted .is))
+      ∙ line-delete (68 ∷ 69 ∷ (names ++ t)) (omega arith) refl refl
+      ∙ delete-read (68 ∷ 69 ∷ (names ++ t)) (omega (arith, m)) (omega (arith, m, deleted .low)) (barred-cons 3 13 1 68 (69 ∷ (names ++ t)) refl ∙ barred-cons 3 13 2 69 (names ++ t) refl ∙ deleted .clear)
+      ∙ ap ok (rw (take-at names t 11 n, drop-at names t 11 n))
 
 -- ---- what was read is accepted
 
@@ -145,17 +143,14 @@ after-type l s h e b =
     ap (λ (k : ℕ). barred 3 13 k s) (sym z) ∙ p
 
 event-accepted : (l : List ℕ) (m : Message) → readEvent l ≡ ok m → Accepts m
-unfolding readEvent
 event-accepted l m e =
-    let p = passed (differs (length l) 80) wrongLength 0 (unless (differs (lowestBarred (take 79 l)) 0) barredByte (lowestBarred (take 79 l)) (unless (differs (getD l 79 0) (checkCharacter (take 79 l))) wrongCheck 80 (asEvent (readColumns eventColumns [] 2 (drop 2 l))))) m e in
-    let q = passed (differs (lowestBarred (take 79 l)) 0) barredByte (lowestBarred (take 79 l)) (unless (differs (getD l 79 0) (checkCharacter (take 79 l))) wrongCheck 80 (asEvent (readColumns eventColumns [] 2 (drop 2 l)))) m (p .1) in
-    let r = passed (differs (getD l 79 0) (checkCharacter (take 79 l))) wrongCheck 80 (asEvent (readColumns eventColumns [] 2 (drop 2 l))) m (q .1) in
-    let w = was-of (readColumns eventColumns [] 2 (drop 2 l)) m (r .1) in
-    let n : length l ≡ 80 = differs-same (length l) 80 (p .0) in
+    let p = event-read l m e in
+    let w = was-of (readColumns eventColumns [] 2 (drop 2 l)) m (p .columns) in
+    let n : length l ≡ 80 = p .size in
     let k : length (take 77 (drop 2 l)) ≡ 77 = length-take-le 77 (drop 2 l) (omega (arith, length-drop 2 l)) in
     let lt : length (take 79 l) ≡ 79 = length-take-le 79 l (omega arith) in
     let c : take 2 (take 79 l) ++ take 77 (drop 2 l) ≡ take 79 l = ap (λ (x : List ℕ). x ++ take 77 (drop 2 l)) (take-take 2 79 l (omega arith)) ∙ sym (take-add 2 77 l) in
-    let b = after-type (take 79 l) (take 77 (drop 2 l)) (omega arith) c (differs-same (lowestBarred (take 79 l)) 0 (q .0)) in
+    let b = after-type (take 79 l) (take 77 (drop 2 l)) (omega arith) c (p .clear) in
     let d : readColumns eventColumns [] 2 (take 77 (drop 2 l)) ≡ ok (w .value) =
     sym (columns-more-bytes eventColumns [] 2 (take 77 (drop 2 l)) (drop 77 (drop 2 l)) (omega (arith, event-sound .wide))) ∙ ap (readColumns eventColumns [] 2) (take-append-drop 77 (drop 2 l)) ∙ w .read in
     let x = columns-accepted eventColumns [] 2 (take 77 (drop 2 l)) (w .value) (event-sound .fine) (omega (arith, event-sound .wide)) (line-clean 3 13 eventColumns 2 (take 77 (drop 2 l)) (event-sound .brackets) (k ∙ sym (event-sound .wide)) b) d in
@@ -164,14 +159,12 @@ event-accepted l m e =
 delete-accepted : (l : List ℕ) (m : Message) → readDelete l ≡ ok m → Accepts m
 unfolding readDelete
 delete-accepted l m e =
-    let p = passed (ltb (length l) 13) wrongLength 0 (unless (ltb 80 (length l)) wrongLength 0 (unless (differs (lowestBarred l) 0) barredByte (lowestBarred l) (ok (delete (take 11 (drop 2 l)) (drop 13 l))))) m e in
-    let q = passed (ltb 80 (length l)) wrongLength 0 (unless (differs (lowestBarred l) 0) barredByte (lowestBarred l) (ok (delete (take 11 (drop 2 l)) (drop 13 l)))) m (p .1) in
-    let r = passed (differs (lowestBarred l) 0) barredByte (lowestBarred l) (ok (delete (take 11 (drop 2 l)) (drop 13 l))) m (q .1) in
-    let i : delete (take 11 (drop 2 l)) (drop 13 l) ≡ m = cc (r .1) in
-    let h : 13 ≤ length l = ltb-false (length l) 13 (p .0) in
-    let k : length l ≤ 80 = ltb-false 80 (length l) (q .0) in
+    let p = text-read 13 80 13 deleteParts l m e in
+    let i : delete (take 11 (drop 2 l)) (drop 13 l) ≡ m = cc (p .rest) in
+    let h : 13 ≤ length l = p .long in
+    let k : length l ≤ 80 = p .short in
     let d : drop 11 (drop 2 l) ≡ drop 13 l = drop-drop 11 2 l in
-    let b = after-type l (drop 2 l) (omega arith) (take-append-drop 2 l) (differs-same (lowestBarred l) 0 (r .0)) in
+    let b = after-type l (drop 2 l) (omega arith) (take-append-drop 2 l) (p .clear) in
     let n : length (drop 2 l) ≡ length l - 2 = length-drop 2 l in
     let j : take 11 (drop 2 l) ++ drop 13 l ≡ drop 2 l = ap (λ (x : List ℕ). take 11 (drop 2 l) ++ x) (sym d) ∙ take-append-drop 11 (drop 2 l) in
     let t : length (drop 13 l) ≡ length l - 13 = length-drop 13 l in
