@@ -31,7 +31,7 @@ unfoldable pub isLinkLine : List ℕ → Bool
 isLinkLine l = isLinkAnswer (readLine l)
 
 -- what the code finds on its way through the columns after the first `start` bytes of a line: whether they are accepted and, where
--- they are, the check sum of the first n bytes of `head`
+-- they are, a sum that the bytes of `head` after its first n bring to the check sum of all of it
 pub record Sealing (cs : List Col) (start : ℕ) (line : List ℕ) (n : ℕ) (head : List ℕ) (r : Sealed) : Type 0 where
   pub columns : r .ok ≡ isOk (readColumns cs [] start (drop start line))
   pub sum : r .ok ≡ true → checkSum (r .sum) (drop n head) ≡ checkSum 0 head

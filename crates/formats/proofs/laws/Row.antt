@@ -18,7 +18,7 @@ use Rattle.columns.specs.Reading.{readColumns}
 use Rattle.columns.specs.Writing.{writeLine}
 use Rattle.columns.specs.Table.{flagsOf, outcomeOf}
 use Rattle.columns.specs.Row.{whole, SmallSlots, Fits}
-use Rattle.columns.proofs.laws.Answers.{passed, over-whole, differs-not, differs-is, differs-same}
+use Rattle.columns.proofs.laws.Answers.{passed, over-whole, differs-not, differs-same}
 use Rattle.columns.proofs.laws.Bounds.{columnOf, pick-bound, barred-bound, read-bound}
 use Rattle.columns.proofs.laws.Clear.{Clear, clear-blanks, clear-drop, clear-none, barred-clear}
 use Rattle.columns.proofs.laws.Columns.{Line, columns-back}

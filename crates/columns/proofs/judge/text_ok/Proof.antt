@@ -1,5 +1,4 @@
 use borrow.Author.Needs.{needs}
-use native.Mathlib.Omega.{arith}
 use Prim.Native.Nat.{_+_}
 use Rattle.columns.proofs.laws.Bytes.{part-cons}
 use Rattle.columns.proofs.laws.Judge.{any-rule, first-rule}
