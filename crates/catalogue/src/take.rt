@@ -235,8 +235,10 @@ pub fn take_ordered(room: &mut [u8], named: usize, line: &[u8]) -> Receipt
     requires { ⌜ Ordered (now room) × (named ≡ namedOf (contents (now room))) ⌝ }
     ensures { λ r. ⌜ Took (now (room .entry)) (now (line .entry)) (now (room .exit)) r ⌝ }
 {
-    let got = read_line(line);
-    let read = got.read;
+    let mut flags = [0u8; 19];
+    let mut values = [0i64; 19];
+    let mut text = [0u8; 96];
+    let read = read_line(line, &mut flags, &mut values, &mut text);
     let Read::There(kind, _, _, _) = read else {
         return Receipt {
             call: refused(read),

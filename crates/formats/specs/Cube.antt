@@ -1,22 +1,23 @@
 -- CUBE lines: E, DE and LI messages, as they are read and written. Document 01, "The E line", "The DE line"; document 02,
 -- "Take the links".
-use Prim.Native.Nat.{ℕ, _+_}
+use Prim.Native.Nat.{ℕ}
+use mathlib.Core.Path.{_≡_}
 use mathlib.Core.List.{List, [], _∷_, _++_}
-use mathlib.Core.Bool.{Bool, _&&_}
-use lib.IntN.{pos}
-use lib.ListN.{length, take, drop, getD, replicate}
+use mathlib.Core.Bool.{Bool, true, _&&_}
+use lib.IntN.{ℤ}
+use lib.ListN.{length, take, drop, getD}
 use lib.Dec.{eqb, ltb}
 use Rattle.columns.specs.Answer.{pick, Answer, ok, refusal, unless, differs, wrongLength, barredByte, badForm}
 use Rattle.columns.specs.Bytes.{barred}
 use Rattle.columns.specs.Column.{Slot, Rec, Col, integer, text, asHeld, notNegative, required, optional, noBrackets, anyText}
-use Rattle.columns.specs.Reading.{readColumns}
+use Rattle.columns.specs.Reading.{readColumns, readPart, nothing}
 use Rattle.columns.specs.Writing.{writeColumns, inPlace}
 use Rattle.columns.specs.Table.{flagsOf, valuesOf, over}
 use Rattle.formats.specs.Ranges.{yearRange, monthRange, dayRange, hourRange, minuteRange, secondRange, latitudeRange, longitudeRange}
 use Rattle.formats.specs.Check.{checkCharacter}
 use Rattle.formats.specs.Link.{typeOf, addressOf, textOf, formed}
+use Rattle.formats.specs.declared.cube.Read.{Read}
 use Rattle.formats.specs.declared.cube.Read.the-variants as R
-use Rattle.formats.specs.declared.cube.LineRead.{LineRead}
 
 abbrev pub wrongType : ℕ
 wrongType = 3
@@ -97,20 +98,25 @@ abbrev pub linkBarred : List ℕ → ℕ
 linkBarred l = barredTo 14 l
 
 -- an E line: 80 bytes, the check character in column 80 over the 79 before it
-unfoldable pub readEvent : List ℕ → Answer Message
-readEvent l =
+unfoldable pub eventRow : List ℕ → Answer Rec
+eventRow l =
     unless (differs (length l) 80) wrongLength 0
     (clearTo 13 (take 79 l)
-    (unless (differs (getD l 79 0) (checkCharacter (take 79 l))) wrongCheck 80
-    (asEvent (readColumns eventColumns [] 2 (drop 2 l)))))
+    (unless (differs (getD l 79 0) (checkCharacter (take 79 l))) wrongCheck 80 (readColumns eventColumns [] 2 (drop 2 l))))
+
+unfoldable pub readEvent : List ℕ → Answer Message
+readEvent l = asEvent (eventRow l)
 
 -- a DE or an LI line: its length, its lowest barred byte, then its parts
-abbrev pub readText : ℕ → ℕ → ℕ → (List ℕ → Answer Message) → List ℕ → Answer Message
+abbrev pub readText : {A : Type 0} → ℕ → ℕ → ℕ → (List ℕ → Answer A) → List ℕ → Answer A
 readText low high last parts l = ofLength low high l (clearTo last l (parts l))
 
 -- the parts of a DE line, free text from column 14 on
+abbrev pub deleteOf : List ℕ → Message
+deleteOf l = delete (take 11 (drop 2 l)) (drop 13 l)
+
 abbrev pub deleteParts : List ℕ → Answer Message
-deleteParts l = ok (delete (take 11 (drop 2 l)) (drop 13 l))
+deleteParts l = ok (deleteOf l)
 
 -- a DE line: 13 to 80 bytes
 unfoldable pub readDelete : List ℕ → Answer Message
@@ -136,7 +142,7 @@ readLine l =
     (pick (isType 69 32 l) (readEvent l)
     (pick (isType 68 69 l) (readDelete l) (pick (isType 76 73 l) (readLink l) (refusal wrongType 1))))
 
--- ---- what the code returns for an answer: the arrays are zero but for the record
+-- ---- what the code answers for a line: the kind of its record and the lengths of its parts, or the refusal
 
 -- the kinds of record, as docs/RECORDS.md numbers them
 abbrev pub eventKind : ℕ
@@ -148,35 +154,27 @@ deleteKind = 2
 abbrev pub linkKind : ℕ
 linkKind = 4
 
-abbrev pub lineOf : Answer Message → LineRead
-lineOf (ok (event ns t)) =
-    record {
-      read = R.There eventKind 0 0 0;
-      flags = over (flagsOf ns) (replicate 19 0);
-      values = over (valuesOf ns) (replicate 19 (pos 0));
-      text = over t (replicate 250 0);
-    }
-lineOf (ok (delete names t)) =
-    record {
-      read = R.There deleteKind 0 0 (length t);
-      flags = replicate 19 0;
-      values = replicate 19 (pos 0);
-      text = over (names ++ t) (replicate 250 0);
-    }
-lineOf (ok (link names ty ad tx)) =
-    record {
-      read = R.There linkKind (length ty) (length ad) (length tx);
-      flags = replicate 19 0;
-      values = replicate 19 (pos 0);
-      text = over (names ++ (ty ++ (ad ++ tx))) (replicate 250 0);
-    }
-lineOf (refusal n k) =
-    record {
-      read = R.Refused n k;
-      flags = replicate 19 0;
-      values = replicate 19 (pos 0);
-      text = replicate 250 0;
-    }
+abbrev pub lineRead : Answer Message → Read
+lineRead (ok (event ns t)) = R.There eventKind 0 0 0
+lineRead (ok (delete names t)) = R.There deleteKind 0 0 (length t)
+lineRead (ok (link names ty ad tx)) = R.There linkKind (length ty) (length ad) (length tx)
+lineRead (refusal n k) = R.Refused n k
+
+-- what stands in the arrays lent for an event's record: where a column is refused, those before it
+abbrev pub eventPart : List ℕ → Rec
+eventPart l =
+    pick (differs (length l) 80) nothing
+    (pick (differs (lowestBarred (take 79 l)) 0) nothing
+    (pick (differs (getD l 79 0) (checkCharacter (take 79 l))) nothing (readPart eventColumns [] 2 (drop 2 l))))
+
+abbrev pub linePart : List ℕ → Rec
+linePart l = pick (isType 69 32 l) (eventPart l) nothing
+
+pub record LineRead (a : Answer Message) (part : Rec) (r : Read) (f f₁ : List ℕ) (v v₁ : List ℤ) (t t₁ : List ℕ) : Type 0 where
+  pub answer : r ≡ lineRead a
+  pub flags : f₁ ≡ over (flagsOf (part .numbers)) f
+  pub values : v₁ ≡ over (valuesOf (part .numbers)) v
+  pub chars : t₁ ≡ over (part .chars) t
 
 -- ---- what is written, whatever the place for it: fields left to right
 
@@ -191,26 +189,22 @@ sealedAnswer (refusal n k) = refusal n k
 abbrev pub eventWritten : List Slot → List ℕ → Answer (List ℕ)
 eventWritten ns t = sealedAnswer (writeColumns eventColumns [] 2 ns t)
 
--- the fields of a DE line are text, each refused by its lowest barred byte alone
-abbrev pub deleteWritten : List ℕ → List ℕ → Answer (List ℕ)
-deleteWritten names t =
-    unless (differs (barred 3 13 3 (names ++ t)) 0) barredByte (barred 3 13 3 (names ++ t))
-    (ok (68 ∷ 69 ∷ (names ++ t)))
+abbrev pub deleteLine : List ℕ → List ℕ → List ℕ
+deleteLine names t = 68 ∷ 69 ∷ (names ++ t)
 
 abbrev pub linkLine : List ℕ → List ℕ → List ℕ → List ℕ → List ℕ
 linkLine names ty ad tx = 76 ∷ 73 ∷ (names ++ (32 ∷ ty ++ (32 ∷ ad ++ (32 ∷ tx))))
 
--- an LI line, and whether its parts are well formed: 2 in every column comes before 6 at column 15
-abbrev pub linkWritten : List ℕ → Bool → Answer (List ℕ)
-linkWritten l f = clearTo 14 l (pick f (ok l) (refusal badForm 15))
+-- a DE or an LI line, and whether its parts are well formed: 2 in every column comes before 6 at column 15
+abbrev pub textWritten : ℕ → List ℕ → Bool → Answer (List ℕ)
+textWritten last l f = clearTo last l (pick f (ok l) (refusal badForm 15))
 
--- ---- written into a place: 1 for a DE text over 67 bytes or an LI line outside 20 to 255; 11; then what is written
+-- ---- written into a place: 1 for a DE line outside 13 to 80 bytes or an LI line outside 20 to 255; 11; then what is written
 
-unfoldable pub putLink : List ℕ → Bool → ℕ → Answer (List ℕ)
-putLink l f room = ofLength 20 255 l (inPlace room (length l) (linkWritten l f))
+unfoldable pub putText : ℕ → ℕ → ℕ → List ℕ → Bool → ℕ → Answer (List ℕ)
+putText low high last l f room = ofLength low high l (inPlace room (length l) (textWritten last l f))
 
 unfoldable pub writeMessage : Message → ℕ → Answer (List ℕ)
 writeMessage (event ns t) room = inPlace room 80 (eventWritten ns t)
-writeMessage (delete names t) room =
-    unless (ltb 67 (length t)) wrongLength 0 (inPlace room (13 + length t) (deleteWritten names t))
-writeMessage (link names ty ad tx) room = putLink (linkLine names ty ad tx) (formed ty ad tx) room
+writeMessage (delete names t) room = putText 13 80 13 (deleteLine names t) true room
+writeMessage (link names ty ad tx) room = putText 20 255 14 (linkLine names ty ad tx) (formed ty ad tx) room

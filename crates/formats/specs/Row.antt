@@ -3,21 +3,16 @@
 use Prim.Native.Nat.{ℕ, _+_, _*_}
 use mathlib.Core.List.{List, []}
 use mathlib.Core.Bool.{_&&_}
-use lib.IntN.{pos}
 use lib.ListN.{length, take, drop, replicate}
 use lib.Dec.{ltb}
-use Rattle.columns.specs.Answer.{pick, Answer, ok, refusal, barredByte, badForm}
-use Rattle.columns.specs.Bytes.{barred}
+use Rattle.columns.specs.Answer.{pick, Answer, ok, refusal, unless, differs, wrongLength, barredByte, badForm}
+use Rattle.columns.specs.Bytes.{barred, sameBytes}
 use Rattle.columns.specs.Column.{Rec, Col, widths, allSlots, allTexts}
-use Rattle.columns.specs.Reading.{readColumns}
+use Rattle.columns.specs.Reading.{nothing, readColumns, readPart}
 use Rattle.columns.specs.Writing.{inPlace, writeLine}
 use Rattle.columns.specs.Table.{flagsOf, valuesOf, over}
-use Rattle.columns.specs.Row.{whole, rowSize, numberRoom, textRoom}
-use Rattle.columns.specs.Answer.{unless, differs, wrongLength}
-use Rattle.columns.specs.Bytes.{sameBytes}
+use Rattle.columns.specs.Row.{whole, rowSize}
 use Rattle.formats.specs.Record.{packed, slotsIn}
-use Rattle.formats.specs.declared.row.RowRead.{RowRead}
-use Rattle.columns.specs.declared.Outcome.the-variants as O
 
 -- a format is its columns, the number of its record's kind, and the header of its blocks
 pub record RowFormat : Type 0 where
@@ -42,26 +37,15 @@ readRow cs l =
     (unless (differs (lowestBarredByte l) 0) barredByte (lowestBarredByte l)
     (readColumns cs [] 0 (blankFilled (widths cs) l)))
 
+-- what stands in the lent record: nothing where the length or a byte is refused, else what was read before the first refusal
+unfoldable pub rowPart : List Col → List ℕ → Rec
+rowPart cs l =
+    pick (ltb (widths cs) (length l)) nothing
+    (pick (differs (lowestBarredByte l) 0) nothing (readPart cs [] 0 (blankFilled (widths cs) l)))
+
 -- 11 where the place is short of the full width; then columns left to right, each 5, 2, 10, 7, 8
 abbrev pub writeRow : List Col → Rec → ℕ → Answer (List ℕ)
 writeRow cs m room = writeLine cs (m .numbers) (m .chars) room
-
--- what the code returns for an answer: the arrays are zero but for the record
-abbrev pub rowOf : Answer Rec → RowRead
-rowOf (ok m) =
-    record {
-      read = O.Done;
-      flags = over (flagsOf (m .numbers)) (replicate numberRoom 0);
-      values = over (valuesOf (m .numbers)) (replicate numberRoom (pos 0));
-      text = over (m .chars) (replicate textRoom 0);
-    }
-rowOf (refusal n k) =
-    record {
-      read = O.Refused n k;
-      flags = replicate numberRoom 0;
-      values = replicate numberRoom (pos 0);
-      text = replicate textRoom 0;
-    }
 
 -- ---- the record's bytes: its kind, its flags, its numbers, its text
 

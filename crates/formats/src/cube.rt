@@ -12,6 +12,7 @@ use super::ranges::SECOND;
 use super::ranges::YEAR;
 use columns::Outcome;
 use columns::bytes::copy;
+use columns::bytes::copy_at;
 use columns::bytes::first_barred;
 use columns::column::ANY_TEXT;
 use columns::column::AS_HELD;
@@ -21,17 +22,14 @@ use columns::column::NOT_NEGATIVE;
 use columns::column::REQUIRED;
 use columns::column::TEXT;
 use columns::column::WIDTH;
-use columns::cursor::Cursor;
 use columns::reader::read_columns;
 use columns::writer::put_columns;
 ghost use mathlib.Core.Path.{_≡_};
-ghost use Prim.Native.Nat.{_+_};
-ghost use lib.ListN.{length, drop};
-ghost use mathlib.Core.List.{[]};
-ghost use Rattle.columns.specs.Answer.{refusal};
-ghost use Rattle.columns.specs.Reading.{readColumns};
-ghost use Rattle.columns.specs.Table.{slotsOf, Wrote};
-ghost use Rattle.formats.specs.Cube.{eventColumns, asEvent, readEvent, readDelete, readLine, lineOf, event, delete, writeMessage};
+ghost use Prim.Native.Nat.{_≤_};
+ghost use lib.ListN.{length, replicate};
+ghost use Rattle.columns.specs.Answer.{ok};
+ghost use Rattle.columns.specs.Table.{slotsOf, over, outcomeOf, Wrote};
+ghost use Rattle.formats.specs.Cube.{readEvent, eventPart, readText, readDelete, isType, readLine, linePart, lineRead, LineRead, event, delete, deleteLine, putText, writeMessage};
 
 // The table of specs/Cube.antt, from column 3 on.
 pub const EVENT_ROWS: [u32; 24] = [
@@ -80,38 +78,26 @@ pub enum Read {
     Refused(u8, usize),
 }
 
-// The outcome of reading a line, with the record: an event's numbers with their flags, and its text (identifier 8,
-// source 2, version 1, magnitude letter, method); a delete's text (identifier, source, version, free text); or a link's
-// (identifier, source, version 2, type, address, text).
-pub struct LineRead {
-    pub read: Read,
-    pub flags: [u8; 19],
-    pub values: [i64; 19],
-    pub text: [u8; 250],
-}
-
-pub fn refused(number: u8, column: usize) -> LineRead
-    ensures { λ r. ⌜ r ≡ lineOf (refusal number column) ⌝ }
+// A line whose type is `E `: its numbers with their flags, and its text (identifier 8, source 2, version 1, magnitude letter,
+// method) over the first of `text`.
+fn read_event(
+    line: &[u8],
+    flags: &mut [u8; 19],
+    values: &mut [i64; 19],
+    text: &mut [u8; 96],
+) -> Read
+    ensures { λ r. ⌜ LineRead (readEvent (now (line .entry))) (eventPart (now (line .entry))) r (now (flags .entry)) (now (flags .exit)) (now (values .entry)) (now (values .exit)) (now (text .entry)) (now (text .exit)) ⌝ }
 {
-    let flags = [0u8; 19];
-    let values = [0i64; 19];
-    let text = [0u8; 250];
-    LineRead {
-        read: Read::Refused(number, column),
-        flags,
-        values,
-        text,
+    if line.len() != 80 {
+        return Read::Refused(super::LENGTH, 0);
     }
-}
-
-// The columns of an E line.
-fn read_event_columns(line: &[u8]) -> LineRead
-    requires { ⌜ length (now line) ≡ 80 ⌝ }
-    ensures { λ r. ⌜ r ≡ lineOf (asEvent (readColumns eventColumns [] 2 (drop 2 (now (line .entry))))) ⌝ }
-{
-    let mut flags = [0u8; 19];
-    let mut values = [0i64; 19];
-    let mut text = [0u8; 250];
+    let barred = first_barred(&line[0..79], 1, 3, 13);
+    if barred != 0 {
+        return Read::Refused(columns::BARRED, barred);
+    }
+    if line[79] != check_character(&line[0..79]) {
+        return Read::Refused(super::CHECK, 80);
+    }
     let outcome = read_columns(
         line,
         2,
@@ -120,95 +106,79 @@ fn read_event_columns(line: &[u8]) -> LineRead
         EVENT_COLUMNS,
         &RANGES,
         &EVENT_LETTERS,
-        &mut flags,
-        &mut values,
-        &mut text,
-    );
-    match outcome {
-        Outcome::Refused(number, column) => refused(number, column),
-        Outcome::Done => LineRead {
-            read: Read::There(EVENT, 0, 0, 0),
-            flags,
-            values,
-            text,
-        },
-    }
-}
-
-// A line whose type is `E `.
-fn read_event(line: &[u8]) -> LineRead
-    ensures { λ r. ⌜ r ≡ lineOf (readEvent (now (line .entry))) ⌝ }
-{
-    if line.len() != 80 {
-        return refused(super::LENGTH, 0);
-    }
-    let barred = first_barred(&line[0..79], 1, 3, 13);
-    if barred != 0 {
-        return refused(columns::BARRED, barred);
-    }
-    if line[79] != check_character(&line[0..79]) {
-        return refused(super::CHECK, 80);
-    }
-    read_event_columns(line)
-}
-
-// A line whose type is `DE`.
-fn read_delete(line: &[u8]) -> LineRead
-    ensures { λ r. ⌜ r ≡ lineOf (readDelete (now (line .entry))) ⌝ }
-{
-    let len = line.len();
-    if len < 13 {
-        return refused(super::LENGTH, 0);
-    }
-    if 80 < len {
-        return refused(super::LENGTH, 0);
-    }
-    let barred = first_barred(line, 1, 3, 13);
-    if barred != 0 {
-        return refused(columns::BARRED, barred);
-    }
-    let flags = [0u8; 19];
-    let values = [0i64; 19];
-    let mut text = [0u8; 250];
-    let cursor = Cursor { at: 2 };
-    let names = cursor.stretch(line, 11, &mut text, 0);
-    names.stretch(line, len - 13, &mut text, 11);
-    LineRead {
-        read: Read::There(DELETE, 0, 0, len - 13),
         flags,
         values,
         text,
+    );
+    match outcome {
+        Outcome::Refused(number, column) => Read::Refused(number, column),
+        Outcome::Done => Read::There(EVENT, 0, 0, 0),
     }
 }
 
-// A CUBE line of any kind.
-pub fn read_line(line: &[u8]) -> LineRead
-    ensures { λ r. ⌜ r ≡ lineOf (readLine (now (line .entry))) ⌝ }
+// How a DE or an LI line begins: `low` to `high` bytes, none of them barred, brackets in columns 3 to `last` among them.
+pub fn judge_text(line: &[u8], low: usize, high: usize, last: usize) -> Outcome
+    requires { ⌜ high ≤ 255 ⌝ }
+    ensures { λ r. ⌜ r ≡ outcomeOf (readText low high last ok (now (line .entry))) ⌝ }
+{
+    let len = line.len();
+    if len < low {
+        return Outcome::Refused(super::LENGTH, 0);
+    }
+    if high < len {
+        return Outcome::Refused(super::LENGTH, 0);
+    }
+    let barred = first_barred(line, 1, 3, last);
+    if barred != 0 {
+        return Outcome::Refused(columns::BARRED, barred);
+    }
+    Outcome::Done
+}
+
+// A line whose type is `DE`; its record is the line after its type.
+fn read_delete(line: &[u8]) -> Read
+    ensures { λ r. ⌜ r ≡ lineRead (readDelete (now (line .entry))) ⌝ }
+{
+    match judge_text(line, 13, 80, 13) {
+        Outcome::Refused(number, column) => Read::Refused(number, column),
+        Outcome::Done => Read::There(DELETE, 0, 0, line.len() - 13),
+    }
+}
+
+// Whether a line begins with two bytes.
+fn is_type(line: &[u8], a: u8, b: u8) -> bool
+    requires { ⌜ 2 ≤ length (now line) ⌝ }
+    ensures { λ r. ⌜ r ≡ isType a b (now (line .entry)) ⌝ }
+{
+    if line[0] != a {
+        return false;
+    }
+    line[1] == b
+}
+
+// A CUBE line of any kind. The numbers and the text of an event come into the lent arrays: where a column is refused, those
+// before it stand there. Of other lines nothing does.
+pub fn read_line(
+    line: &[u8],
+    flags: &mut [u8; 19],
+    values: &mut [i64; 19],
+    text: &mut [u8; 96],
+) -> Read
+    ensures { λ r. ⌜ LineRead (readLine (now (line .entry))) (linePart (now (line .entry))) r (now (flags .entry)) (now (flags .exit)) (now (values .entry)) (now (values .exit)) (now (text .entry)) (now (text .exit)) ⌝ }
 {
     if line.len() < 2 {
-        return refused(super::LENGTH, 0);
+        return Read::Refused(super::LENGTH, 0);
     }
-    let a = line[0];
-    let b = line[1];
-    if a == 69 {
-        if b == 32 {
-            return read_event(line);
-        }
-        return refused(super::TYPE, 1);
+    if is_type(line, 69, 32) {
+        return read_event(line, flags, values, text);
     }
-    if a == 68 {
-        if b == 69 {
-            return read_delete(line);
-        }
-        return refused(super::TYPE, 1);
+    if is_type(line, 68, 69) {
+        return read_delete(line);
     }
-    if a == 76 {
-        if b == 73 {
-            return read_link(line);
-        }
-        return refused(super::TYPE, 1);
+    if is_type(line, 76, 73) {
+        return read_link(line);
     }
-    refused(super::TYPE, 1)
+    Read::Refused(super::TYPE, 1)
 }
 
 // An event's record, its 19 numbers and 13 text bytes, as a line of 80 bytes over the first of `out`. Nothing is changed
@@ -242,9 +212,55 @@ pub fn write_event(flags: &[u8; 19], values: &[i64; 19], text: &[u8; 13], out: &
     r
 }
 
-// A delete's record, identifier, source and version and its free text, as a line over the first bytes of `out`. Nothing is
-// changed where it is refused.
-pub fn write_delete(names: &[u8; 11], text: &[u8], out: &mut [u8]) -> Outcome
+// A DE or an LI line, whose parts are well formed or not, over the first bytes of `out`. Nothing is changed where it is refused.
+pub fn put_text(
+    line: &[u8],
+    low: usize,
+    high: usize,
+    last: usize,
+    formed: bool,
+    out: &mut [u8],
+) -> Outcome
+    requires { ⌜ high ≤ 255 ⌝ }
+    ensures { λ r. ⌜ Wrote (putText low high last (now (line .entry)) formed (length (now (out .entry)))) r (now (out .entry)) (now (out .exit)) ⌝ }
+{
+    let len = line.len();
+    if len < low {
+        return Outcome::Refused(super::LENGTH, 0);
+    }
+    if high < len {
+        return Outcome::Refused(super::LENGTH, 0);
+    }
+    if out.len() < len {
+        return Outcome::Refused(columns::SHORT, 0);
+    }
+    let barred = first_barred(line, 1, 3, last);
+    if barred != 0 {
+        return Outcome::Refused(columns::BARRED, barred);
+    }
+    if !formed {
+        return Outcome::Refused(columns::FORM, 15);
+    }
+    copy(out, line);
+    Outcome::Done
+}
+
+// The line of a delete, in the first bytes of 80.
+fn delete_line(names: &[u8], text: &[u8]) -> [u8; 80]
+    requires { ⌜ (length (now names) ≡ 11) × (length (now text) ≤ 67) ⌝ }
+    ensures { λ r. ⌜ r ≡ over (deleteLine (now (names .entry)) (now (text .entry))) (replicate 80 0) ⌝ }
+{
+    let mut line = [0u8; 80];
+    line[0] = 68;
+    line[1] = 69;
+    copy_at(&mut line, 2, names);
+    copy_at(&mut line, 13, text);
+    line
+}
+
+// A delete's record, its names in 11 bytes, as a line over the first bytes of `out`.
+fn put_delete(names: &[u8], text: &[u8], out: &mut [u8]) -> Outcome
+    requires { ⌜ length (now names) ≡ 11 ⌝ }
     ensures { λ r. ⌜ Wrote (writeMessage (delete (now (names .entry)) (now (text .entry))) (length (now (out .entry)))) r (now (out .entry)) (now (out .exit)) ⌝ }
 {
     let len = text.len();
@@ -252,22 +268,14 @@ pub fn write_delete(names: &[u8; 11], text: &[u8], out: &mut [u8]) -> Outcome
         return Outcome::Refused(super::LENGTH, 0);
     }
     let end = 13 + len;
-    if out.len() < end {
-        return Outcome::Refused(columns::SHORT, 0);
-    }
-    let barred = first_barred(names, 3, 3, 13);
-    if barred != 0 {
-        return Outcome::Refused(columns::BARRED, barred);
-    }
-    let barred = first_barred(text, 14, 3, 13);
-    if barred != 0 {
-        return Outcome::Refused(columns::BARRED, barred);
-    }
-    let mut line = [0u8; 80];
-    line[0] = 68;
-    line[1] = 69;
-    copy(&mut line[2..13], names);
-    copy(&mut line[13..end], text);
-    copy(out, &line[0..end]);
-    Outcome::Done
+    let line = delete_line(names, text);
+    put_text(&line[0..end], 13, 80, 13, true, out)
+}
+
+// A delete's record, identifier, source and version and its free text, as a line over the first bytes of `out`. Nothing is
+// changed where it is refused.
+pub fn write_delete(names: &[u8; 11], text: &[u8], out: &mut [u8]) -> Outcome
+    ensures { λ r. ⌜ Wrote (writeMessage (delete (now (names .entry)) (now (text .entry))) (length (now (out .entry)))) r (now (out .entry)) (now (out .exit)) ⌝ }
+{
+    put_delete(names, text, out)
 }

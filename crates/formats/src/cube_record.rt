@@ -14,13 +14,15 @@ use columns::Outcome;
 use columns::bytes::copy;
 use columns::bytes::copy_at;
 use columns::bytes::same;
+use columns::cursor::Cursor;
 ghost use mathlib.Core.Path.{_≡_};
-ghost use mathlib.Core.List.{_∷_, _++_};
-ghost use Prim.Native.Nat.{_+_, _≤_, _<_};
-ghost use lib.ListN.{length, take, getD};
-ghost use Rattle.formats.specs.Cube.{eventKind, deleteKind, linkKind};
+ghost use mathlib.Core.List.{_++_};
+ghost use Prim.Native.Nat.{_+_, _≤_};
+ghost use lib.ListN.{length, take, drop, getD};
+ghost use Rattle.columns.specs.Table.{over};
+ghost use Rattle.formats.specs.Cube.{eventKind, linkKind, deleteOf, link};
 ghost use Rattle.formats.specs.Record.{packed, Replied, replied};
-ghost use Rattle.formats.specs.CubeRecord.{filled, readInto, writeFrom};
+ghost use Rattle.formats.specs.CubeRecord.{filled, recordOf, readInto, writeFrom};
 
 // The bytes of a record of any kind.
 pub const RECORD: usize = 268;
@@ -46,24 +48,46 @@ fn text_bytes(head: &[u8], chars: &[u8]) -> [u8; 268]
     bytes
 }
 
-// `chars` begin with the names, 11 bytes, and a text of `len` bytes.
-fn delete_bytes(len: usize, chars: &[u8]) -> [u8; 268]
-    requires { ⌜ (len ≤ 67) × (length (now chars) ≡ 250) ⌝ }
-    ensures { λ r. ⌜ r ≡ filled (deleteKind ∷ len ∷ take (11 + len) (now (chars .entry))) ⌝ }
+// A delete's record, from a line of 13 to 80 bytes.
+fn delete_bytes(line: &[u8]) -> [u8; 268]
+    requires { ⌜ (13 ≤ length (now line)) × (length (now line) ≤ 80) ⌝ }
+    ensures { λ r. ⌜ r ≡ recordOf (deleteOf (now (line .entry))) ⌝ }
 {
-    let end = 11 + len;
-    let head = [DELETE, len as u8];
-    text_bytes(&head, &chars[0..end])
+    let size = line.len() - 13;
+    let mut bytes = [0u8; 268];
+    bytes[0] = DELETE;
+    bytes[1] = size as u8;
+    let cursor = Cursor { at: 2 };
+    let names = cursor.stretch(line, 11, &mut bytes, 2);
+    names.stretch(line, size, &mut bytes, 13);
+    bytes
 }
 
-// `chars` begin with the names, 12 bytes, and a type, an address and a text of these lengths.
-fn link_bytes(kind: usize, address: usize, text: usize, chars: &[u8]) -> [u8; 268]
-    requires { ⌜ (kind + address + text ≤ 238) × (length (now chars) ≡ 250) ⌝ }
-    ensures { λ r. ⌜ r ≡ filled (linkKind ∷ kind ∷ address ∷ text ∷ take (12 + kind + address + text) (now (chars .entry))) ⌝ }
+// A link's record, from a line with a type and an address of these lengths.
+fn link_bytes(line: &[u8], kind: usize, address: usize) -> [u8; 268]
+    requires { ⌜ (17 + kind + address ≤ length (now line)) × (length (now line) ≤ 255) ⌝ }
+    ensures { λ r. ⌜ r ≡ recordOf (link (take 12 (drop 2 (now (line .entry)))) (take kind (drop 15 (now (line .entry)))) (take address (drop (16 + kind) (now (line .entry)))) (drop (17 + kind + address) (now (line .entry)))) ⌝ }
 {
-    let end = 12 + kind + address + text;
-    let head = [LINK, kind as u8, address as u8, text as u8];
-    text_bytes(&head, &chars[0..end])
+    let len = line.len();
+    let start = 16 + kind;
+    let rest = start + address + 1;
+    let size = len - rest;
+    let head = [LINK, kind as u8, address as u8, size as u8];
+    let mut bytes = [0u8; 268];
+    copy_at(&mut bytes, 0, &head);
+    copy_at(&mut bytes, 4, &line[2..14]);
+    copy_at(&mut bytes, 16, &line[15..15 + kind]);
+    copy_at(&mut bytes, start, &line[start..start + address]);
+    copy_at(&mut bytes, start + address, &line[rest..len]);
+    bytes
+}
+
+// An event's record, from its numbers and its text with zeros after it, over the first bytes of `out`.
+fn put_event(out: &mut [u8], flags: &[u8; 19], values: &[i64; 19], text: &[u8; 96])
+    requires { ⌜ 268 ≤ length (now out) ⌝ }
+    ensures { λ _. ⌜ now (out .exit) ≡ over (packed eventKind (now (flags .entry)) (now (values .entry)) (now (text .entry))) (now (out .entry)) ⌝ }
+{
+    pack(out, EVENT, flags, values, text);
 }
 
 // A CUBE line read into a record, over the first bytes of `out`. Nothing is changed where it is refused.
@@ -73,25 +97,22 @@ pub fn read_into(line: &[u8], out: &mut [u8]) -> Reply
     if out.len() < RECORD {
         return Reply::Refused(columns::SHORT, 0);
     }
-    let got = read_line(line);
-    let read = got.read;
-    let flags = got.flags;
-    let values = got.values;
-    let text = got.text;
-    match read {
+    let mut flags = [0u8; 19];
+    let mut values = [0i64; 19];
+    let mut text = [0u8; 96];
+    match read_line(line, &mut flags, &mut values, &mut text) {
         Read::Refused(number, column) => Reply::Refused(number, column),
-        Read::There(kind, type_len, address_len, text_len) => {
+        Read::There(kind, type_len, address_len, _) => {
             if kind == EVENT {
-                let bytes = event_bytes(&flags, &values, &text[0..13]);
-                copy(out, &bytes);
+                put_event(out, &flags, &values, &text);
                 return Reply::Done(RECORD);
             }
             if kind == LINK {
-                let bytes = link_bytes(type_len, address_len, text_len, &text);
+                let bytes = link_bytes(line, type_len, address_len);
                 copy(out, &bytes);
                 return Reply::Done(RECORD);
             }
-            let bytes = delete_bytes(text_len, &text);
+            let bytes = delete_bytes(line);
             copy(out, &bytes);
             Reply::Done(RECORD)
         }

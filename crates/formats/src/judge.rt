@@ -73,9 +73,10 @@ pub fn is_event(line: &[u8]) -> bool
 pub fn is_link(line: &[u8]) -> bool
     ensures { λ r. ⌜ r ≡ isLinkLine (now (line .entry)) ⌝ }
 {
-    let got = read_line(line);
-    let read = got.read;
-    match read {
+    let mut flags = [0u8; 19];
+    let mut values = [0i64; 19];
+    let mut text = [0u8; 96];
+    match read_line(line, &mut flags, &mut values, &mut text) {
         Read::There(kind, _, _, _) => kind == LINK,
         Read::Refused(_, _) => false,
     }

@@ -1,13 +1,11 @@
 // CUBE lines: LI messages, links to pages about an event, read and written.
 use super::cube::LINK;
-use super::cube::LineRead;
 use super::cube::Read;
-use super::cube::refused;
+use super::cube::judge_text;
+use super::cube::put_text;
 use super::lines::scan_end;
 use columns::Outcome;
-use columns::bytes::copy;
 use columns::bytes::copy_at;
-use columns::bytes::first_barred;
 use columns::bytes::same;
 ghost use mathlib.Core.Path.{_≡_};
 ghost use mathlib.Core.List.{_++_};
@@ -15,7 +13,7 @@ ghost use Prim.Native.Nat.{_+_, _≤_, min};
 ghost use lib.ListN.{length, getD, replicate};
 ghost use Rattle.columns.specs.Table.{over, Wrote};
 ghost use Rattle.formats.specs.Link.{isWord, formed, textOf, saysDelete};
-ghost use Rattle.formats.specs.Cube.{lineOf, link, linkLine, linkParts, readLink, writeMessage};
+ghost use Rattle.formats.specs.Cube.{link, linkLine, linkParts, readLink, lineRead, writeMessage};
 
 const BLANK: u8 = 32;
 
@@ -48,74 +46,44 @@ fn is_formed(kind: &[u8], address: &[u8], text: &[u8]) -> bool
     text[0] != BLANK
 }
 
-// A record's text: identifier, source and version, then type, address and text.
-fn record_text(names: &[u8], kind: &[u8], address: &[u8], text: &[u8]) -> [u8; 250]
-    requires { ⌜ length (now names) + length (now kind) + length (now address) + length (now text) ≤ 250 ⌝ }
-    ensures { λ r. ⌜ r ≡ over (now (names .entry) ++ (now (kind .entry) ++ (now (address .entry) ++ now (text .entry)))) (replicate 250 0) ⌝ }
-{
-    let mut chars = [0u8; 250];
-    let at = names.len();
-    copy_at(&mut chars, 0, names);
-    copy_at(&mut chars, at, kind);
-    let at = at + kind.len();
-    copy_at(&mut chars, at, address);
-    let at = at + address.len();
-    copy_at(&mut chars, at, text);
-    chars
-}
-
 // The parts of a line of allowed length and bytes.
-fn read_parts(line: &[u8]) -> LineRead
+fn read_parts(line: &[u8]) -> Read
     requires { ⌜ (20 ≤ length (now line)) × ((length (now line) ≤ 255) × (getD (now line) 14 0 ≡ 32)) ⌝ }
-    ensures { λ r. ⌜ r ≡ lineOf (linkParts (now (line .entry))) ⌝ }
+    ensures { λ r. ⌜ r ≡ lineRead (linkParts (now (line .entry))) ⌝ }
 {
     let len = line.len();
     let end = scan_end(line, 15, BLANK);
     if len <= end {
-        return refused(columns::FORM, 15);
+        return Read::Refused(columns::FORM, 15);
     }
     let start = end + 1;
     let stop = scan_end(line, start, BLANK);
     if len <= stop {
-        return refused(columns::FORM, 15);
+        return Read::Refused(columns::FORM, 15);
     }
     let rest = stop + 1;
     let kind = &line[15..end];
     let address = &line[start..stop];
     let words = &line[rest..len];
     if !is_formed(kind, address, words) {
-        return refused(columns::FORM, 15);
+        return Read::Refused(columns::FORM, 15);
     }
-    let flags = [0u8; 19];
-    let values = [0i64; 19];
-    let text = record_text(&line[2..14], kind, address, words);
-    LineRead {
-        read: Read::There(LINK, kind.len(), address.len(), words.len()),
-        flags,
-        values,
-        text,
-    }
+    Read::There(LINK, kind.len(), address.len(), words.len())
 }
 
 // A line whose type is `LI`.
-pub fn read_link(line: &[u8]) -> LineRead
-    ensures { λ r. ⌜ r ≡ lineOf (readLink (now (line .entry))) ⌝ }
+pub fn read_link(line: &[u8]) -> Read
+    ensures { λ r. ⌜ r ≡ lineRead (readLink (now (line .entry))) ⌝ }
 {
-    let len = line.len();
-    if len < 20 {
-        return refused(super::LENGTH, 0);
+    match judge_text(line, 20, 255, 14) {
+        Outcome::Refused(number, column) => Read::Refused(number, column),
+        Outcome::Done => {
+            if line[14] != BLANK {
+                return Read::Refused(columns::FORM, 15);
+            }
+            read_parts(line)
+        }
     }
-    if 255 < len {
-        return refused(super::LENGTH, 0);
-    }
-    let barred = first_barred(line, 1, 3, 14);
-    if barred != 0 {
-        return refused(columns::BARRED, barred);
-    }
-    if line[14] != BLANK {
-        return refused(columns::FORM, 15);
-    }
-    read_parts(line)
 }
 
 // The line of a link, in the first bytes of 255.
@@ -163,26 +131,14 @@ fn put_link(names: &[u8], kind: &[u8], address: &[u8], text: &[u8], out: &mut [u
     requires { ⌜ length (now names) ≡ 12 ⌝ }
     ensures { λ r. ⌜ Wrote (writeMessage (link (now (names .entry)) (now (kind .entry)) (now (address .entry)) (now (text .entry))) (length (now (out .entry)))) r (now (out .entry)) (now (out .exit)) ⌝ }
 {
-    let end = 17 + parts_size(kind, address, text);
-    if end < 20 {
+    let size = parts_size(kind, address, text);
+    if 238 < size {
         return Outcome::Refused(super::LENGTH, 0);
     }
-    if 255 < end {
-        return Outcome::Refused(super::LENGTH, 0);
-    }
-    if out.len() < end {
-        return Outcome::Refused(columns::SHORT, 0);
-    }
+    let end = 17 + size;
     let line = link_line(names, kind, address, text);
-    let barred = first_barred(&line[0..end], 1, 3, 14);
-    if barred != 0 {
-        return Outcome::Refused(columns::BARRED, barred);
-    }
-    if !is_formed(kind, address, text) {
-        return Outcome::Refused(columns::FORM, 15);
-    }
-    copy(out, &line[0..end]);
-    Outcome::Done
+    let formed = is_formed(kind, address, text);
+    put_text(&line[0..end], 20, 255, 14, formed, out)
 }
 
 // A link's record, identifier, source and version, type, address and text, as a line over the first bytes of `out`. Nothing

@@ -12,61 +12,47 @@ use columns::bytes::first_barred;
 use columns::bytes::same;
 ghost use mathlib.Core.Path.{_≡_};
 ghost use lib.ListN.{length, replicate};
-ghost use Rattle.columns.specs.Answer.{refusal};
 ghost use Rattle.columns.specs.Column.{allSlots, allTexts};
 ghost use Rattle.columns.specs.Row.{rowSize};
-ghost use Rattle.columns.specs.Table.{over, outcomeOf};
+ghost use Rattle.columns.specs.Table.{over, outcomeOf, ReadPart};
 ghost use Rattle.formats.specs.Record.{packed, Replied};
-ghost use Rattle.formats.specs.Row.{readRow, rowOf, namedRow, rowLineAnswer, readRowInto, writeRowFrom};
+ghost use Rattle.formats.specs.Row.{readRow, rowPart, namedRow, rowLineAnswer, readRowInto, writeRowFrom};
 ghost use Rattle.formats.specs.Format.{formatOf};
 
-// The outcome of reading a line, with the record: its numbers with their flags (a time takes three) and its text bytes over the
-// first places of the arrays, in the order of the columns.
-pub struct RowRead {
-    pub read: Outcome,
-    pub flags: [u8; 40],
-    pub values: [i64; 40],
-    pub text: [u8; 160],
-}
-
-pub fn no_row(number: u8, column: usize) -> RowRead
-    ensures { λ r. ⌜ r ≡ rowOf (refusal number column) ⌝ }
-{
-    let flags = [0u8; 40];
-    let values = [0i64; 40];
-    let text = [0u8; 160];
-    RowRead {
-        read: Outcome::Refused(number, column),
-        flags,
-        values,
-        text,
-    }
-}
-
-// A line of any bytes and any length, read by the format of a kind.
-pub fn read_row(kind: u8, line: &[u8]) -> RowRead
-    ensures { λ r. ⌜ r ≡ rowOf (readRow (formatOf kind .columns) (now (line .entry))) ⌝ }
+// A line of any bytes and any length, read by the format of a kind: its numbers with their flags (a time takes three) and its text
+// bytes over the first places of the lent record, in the order of the columns. Where a column is refused, those before it stand
+// there.
+pub fn read_row(
+    kind: u8,
+    line: &[u8],
+    flags: &mut [u8; 40],
+    values: &mut [i64; 40],
+    text: &mut [u8; 160],
+) -> Outcome
+    ensures { λ r. ⌜ ReadPart (readRow (formatOf kind .columns) (now (line .entry))) (rowPart (formatOf kind .columns) (now (line .entry))) r (now (flags .entry)) (now (flags .exit)) (now (values .entry)) (now (values .exit)) (now (text .entry)) (now (text .exit)) ⌝ }
 {
     let f = format_of(kind);
     let width = f.width;
     if width < line.len() {
-        return no_row(super::LENGTH, 0);
+        return Outcome::Refused(super::LENGTH, 0);
     }
     let barred = first_barred(line, 1, 0, 0);
     if barred != 0 {
-        return no_row(columns::BARRED, barred);
+        return Outcome::Refused(columns::BARRED, barred);
     }
     let mut filled = [32u8; 256];
     copy(&mut filled, line);
-    read_cells(kind, &filled[0..width])
+    read_cells(kind, &filled[0..width], flags, values, text)
 }
 
 // The answer for a line alone, without its record.
 pub fn judge_row(kind: u8, line: &[u8]) -> Outcome
     ensures { λ r. ⌜ r ≡ outcomeOf (readRow (formatOf kind .columns) (now (line .entry))) ⌝ }
 {
-    let got = read_row(kind, line);
-    got.read
+    let mut flags = [0u8; 40];
+    let mut values = [0i64; 40];
+    let mut text = [0u8; 160];
+    read_row(kind, line, &mut flags, &mut values, &mut text)
 }
 
 // The bytes of a record of the format of a kind, and zeros after them.
@@ -91,16 +77,13 @@ pub fn read_row_into(kind: u8, line: &[u8], out: &mut [u8]) -> Reply
     if out.len() < size {
         return Reply::Refused(columns::SHORT, 0);
     }
-    let got = read_row(kind, line);
-    let read = got.read;
-    let flags = got.flags;
-    let values = got.values;
-    let text = got.text;
-    match read {
+    let mut flags = [0u8; 40];
+    let mut values = [0i64; 40];
+    let mut text = [0u8; 160];
+    match read_row(kind, line, &mut flags, &mut values, &mut text) {
         Outcome::Refused(number, column) => Reply::Refused(number, column),
         Outcome::Done => {
-            let bytes = row_bytes(kind, &flags[0..n], &values[0..n], &text[0..t]);
-            copy(out, &bytes[0..size]);
+            pack(out, f.kind, &flags[0..n], &values[0..n], &text[0..t]);
             Reply::Done(size)
         }
     }

@@ -5,8 +5,6 @@ use super::ranges::DISTANCE;
 use super::ranges::LATITUDE;
 use super::ranges::LONGITUDE;
 use super::ranges::RANGES;
-use super::row::RowRead;
-use super::row::no_row;
 use columns::Outcome;
 use columns::column::ANY_TEXT;
 use columns::column::AS_HELD;
@@ -25,10 +23,9 @@ ghost use mathlib.Core.Path.{_≡_};
 ghost use mathlib.Core.List.{[]};
 ghost use lib.ListN.{length};
 ghost use Rattle.columns.specs.Column.{widths, allSlots, allTexts};
-ghost use Rattle.columns.specs.Reading.{readColumns};
+ghost use Rattle.columns.specs.Reading.{readColumns, readPart};
 ghost use Rattle.columns.specs.Row.{writeWhole};
-ghost use Rattle.columns.specs.Table.{slotsOf, Wrote};
-ghost use Rattle.formats.specs.Row.{rowOf};
+ghost use Rattle.columns.specs.Table.{slotsOf, ReadPart, Wrote};
 ghost use Rattle.formats.specs.Format.{formatOf};
 
 // The columns of every row format, one format after the other.
@@ -103,18 +100,22 @@ const ROWS: [u32; 64] = [
 // The sets of letters, one after the other.
 const LETTERS: [u8; 25] = *b"T_ A_ S_ am_ cd_ ieq_ <> ";
 
-// The columns of a line of a format's full width.
-pub fn read_cells(kind: u8, line: &[u8]) -> RowRead
+// The columns of a line of a format's full width, over the first places of the lent record. Where one is refused, those before it
+// stand there.
+pub fn read_cells(
+    kind: u8,
+    line: &[u8],
+    flags: &mut [u8; 40],
+    values: &mut [i64; 40],
+    text: &mut [u8; 160],
+) -> Outcome
     requires { ⌜ length (now line) ≡ widths (formatOf kind .columns) ⌝ }
-    ensures { λ r. ⌜ r ≡ rowOf (readColumns (formatOf kind .columns) [] 0 (now (line .entry))) ⌝ }
+    ensures { λ r. ⌜ ReadPart (readColumns (formatOf kind .columns) [] 0 (now (line .entry))) (readPart (formatOf kind .columns) [] 0 (now (line .entry))) r (now (flags .entry)) (now (flags .exit)) (now (values .entry)) (now (values .exit)) (now (text .entry)) (now (text .exit)) ⌝ }
 {
     let f = format_of(kind);
     let first = f.first;
     let rows = f.rows;
-    let mut flags = [0u8; 40];
-    let mut values = [0i64; 40];
-    let mut text = [0u8; 160];
-    let outcome = read_columns(
+    read_columns(
         line,
         0,
         &ROWS,
@@ -122,19 +123,10 @@ pub fn read_cells(kind: u8, line: &[u8]) -> RowRead
         rows,
         &RANGES,
         &LETTERS,
-        &mut flags,
-        &mut values,
-        &mut text,
-    );
-    match outcome {
-        Outcome::Refused(number, column) => no_row(number, column),
-        Outcome::Done => RowRead {
-            read: Outcome::Done,
-            flags,
-            values,
-            text,
-        },
-    }
+        flags,
+        values,
+        text,
+    )
 }
 
 // A format's record, its numbers and its text bytes, as a line over the first bytes of `out`: 6 where it is not whole. Nothing is

@@ -2,13 +2,18 @@
 use super::report::say;
 use super::report::say_bytes;
 use super::report::say_count;
-use super::second::NONE;
+use super::second::EVENT;
+use super::second::LINK;
 use super::second::Reading;
+use super::second::refused;
+use columns::bytes::copy;
 use formats::Reply;
-use formats::cube::LineRead;
-use formats::cube::Read;
 use formats::cube_record::read_into;
 use formats::cube_record::write_from;
+use formats::record::get_numbers;
+ghost use mathlib.Core.Path.{_≡_};
+ghost use Prim.Native.Nat.{_≤_};
+ghost use lib.ListN.{length};
 
 // Of a group of lines: on how many the readers agree and differ, and how many both accept. Of all lines: how many got
 // each answer of the library.
@@ -96,36 +101,85 @@ fn same(a: Reading, b: Reading) -> bool {
     same_record(a, b)
 }
 
-// The library's outcome in the second reader's form.
-pub fn as_reading(r: LineRead) -> Reading {
-    let read = r.read;
-    let flags = r.flags;
-    let values = r.values;
-    let text = r.text;
-    let mut out = Reading {
+// The text of a record, zeros after it.
+fn text_of(bytes: &[u8]) -> [u8; 250]
+    requires { ⌜ length (now bytes) ≤ 250 ⌝ }
+{
+    let mut text = [0u8; 250];
+    copy(&mut text, bytes);
+    text
+}
+
+fn wide(b: u8) -> usize {
+    b as usize
+}
+
+// An event's record in the second reader's form.
+fn event_of(bytes: &[u8]) -> Reading
+    requires { ⌜ length (now bytes) ≡ 268 ⌝ }
+{
+    let mut flags = [0u8; 19];
+    let mut values = [0i64; 19];
+    get_numbers(&bytes[1..268], &bytes[20..268], &mut flags, &mut values);
+    let text = text_of(&bytes[172..268]);
+    Reading {
         answer: 0,
         column: 0,
-        kind: NONE,
+        kind: EVENT,
         type_length: 0,
         address_length: 0,
         length: 0,
         flags,
         values,
         text,
-    };
-    match read {
-        Read::There(kind, type_length, address_length, length) => {
-            out.kind = kind;
-            out.type_length = type_length;
-            out.address_length = address_length;
-            out.length = length;
-        }
-        Read::Refused(answer, column) => {
-            out.answer = answer;
-            out.column = column;
-        }
     }
-    out
+}
+
+// A delete's or a link's record in the second reader's form.
+fn words_of(bytes: &[u8]) -> Reading
+    requires { ⌜ length (now bytes) ≡ 268 ⌝ }
+{
+    let flags = [0u8; 19];
+    let values = [0i64; 19];
+    let mut text = text_of(&bytes[2..252]);
+    let mut type_length = 0;
+    let mut address_length = 0;
+    let mut length = wide(bytes[1]);
+    if bytes[0] == LINK {
+        text = text_of(&bytes[4..254]);
+        type_length = wide(bytes[1]);
+        address_length = wide(bytes[2]);
+        length = wide(bytes[3]);
+    }
+    Reading {
+        answer: 0,
+        column: 0,
+        kind: bytes[0],
+        type_length,
+        address_length,
+        length,
+        flags,
+        values,
+        text,
+    }
+}
+
+fn of_record(bytes: &[u8]) -> Reading
+    requires { ⌜ length (now bytes) ≡ 268 ⌝ }
+{
+    if bytes[0] == EVENT {
+        return event_of(bytes);
+    }
+    words_of(bytes)
+}
+
+// What the library reads in a line, in the second reader's form.
+pub fn reading(line: &[u8]) -> Reading {
+    let mut record = [0u8; 268];
+    match read_into(line, &mut record) {
+        Reply::Done(_) => of_record(&record),
+        Reply::Refused(answer, column) => refused(answer, column),
+    }
 }
 
 fn say_difference(line: &[u8], a: Reading, b: Reading) {
@@ -164,7 +218,7 @@ fn agreed(c: Counts, answer: u8) -> Counts {
 
 // Reads one line twice and counts the outcome; a difference is printed.
 pub fn compare(start: Counts, line: &[u8]) -> Counts {
-    let a = as_reading(formats::cube::read_line(line));
+    let a = reading(line);
     let b = super::second::read_line(line);
     let mut c = start;
     let before = c.answers;

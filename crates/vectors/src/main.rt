@@ -42,7 +42,7 @@ fn show(line: &[u8]) -> Reading {
     say(b"line ");
     say(line);
     say(b"\n");
-    let r = compare::as_reading(formats::cube::read_line(line));
+    let r = compare::reading(line);
     say(b"answer ");
     say_count(r.answer as u64);
     say(b"\ncolumn ");

@@ -30,11 +30,11 @@ const CHECK: u8 = 9;
 // The kinds of record (docs/RECORDS.md), and none.
 pub const NONE: u8 = 0;
 
-const EVENT: u8 = 1;
+pub const EVENT: u8 = 1;
 
 const DELETE: u8 = 2;
 
-const LINK: u8 = 4;
+pub const LINK: u8 = 4;
 
 // An answer with its column and, of a line that was read, its kind, the lengths of a link's type, address and text or of a
 // delete's free text, and the record: 19 numbers with a flag for each that is not missing, and the text bytes in the order of
@@ -55,7 +55,7 @@ fn wide(b: u8) -> u16 {
     b as u16
 }
 
-fn refused(answer: u8, column: usize) -> Reading {
+pub fn refused(answer: u8, column: usize) -> Reading {
     let flags = [0u8; 19];
     let values = [0i64; 19];
     let text = [0u8; 250];

@@ -126,11 +126,11 @@ pub record Whole (a : Answer Rec) (f f₁ : List ℕ) (v v₁ : List ℤ) (t t�
   pub values : v₁ ≡ over (valuesOf (value .numbers)) v
   pub chars : t₁ ≡ over (value .chars) t
 
-module _ (cs : List Col) (seen : List Slot) (at : ℕ) (line : List ℕ) {f f₁ : List ℕ} {v v₁ : List ℤ} {t t₁ : List ℕ} where
-  pub read-whole : ReadPart (readColumns cs seen at line) (readPart cs seen at line) O.Done f f₁ v v₁ t t₁ → Whole (readColumns cs seen at line) f f₁ v v₁ t t₁
-  read-whole p =
-      let d = done-of (readColumns cs seen at line) (p .answer) in
-      let e = part-read cs seen at line (d .value) (d .is) in
+module _ {a : Answer Rec} {part : Rec} {f f₁ : List ℕ} {v v₁ : List ℤ} {t t₁ : List ℕ} where
+  pub read-whole : ((r : Rec) → a ≡ ok r → part ≡ r) → ReadPart a part O.Done f f₁ v v₁ t t₁ → Whole a f f₁ v v₁ t t₁
+  read-whole g p =
+      let d = done-of a (p .answer) in
+      let e = g (d .value) (d .is) in
       record {
         value = d .value;
         is = d .is;
@@ -139,8 +139,13 @@ module _ (cs : List Col) (seen : List Slot) (at : ℕ) (line : List ℕ) {f f₁
         chars = p .chars ∙ ap (λ (r : Rec). over (r .chars) t) e;
       }
 
-  pub read-refused : (m j : ℕ) → ReadPart (readColumns cs seen at line) (readPart cs seen at line) (O.Refused m j) f f₁ v v₁ t t₁ → readColumns cs seen at line ≡ refusal m j
-  read-refused m j p = refused-of (readColumns cs seen at line) m j (p .answer)
+  pub read-refused : (m j : ℕ) → ReadPart a part (O.Refused m j) f f₁ v v₁ t t₁ → a ≡ refusal m j
+  read-refused m j p = refused-of a m j (p .answer)
+
+-- where nothing was read, nothing is stored
+pub none-read : (n k : ℕ) (f : List ℕ) (v : List ℤ) (t : List ℕ) → ReadPart (refusal n k) nothing (O.Refused n k) f f v v t t
+unfolding flagsOf valuesOf
+none-read n k f v t = record { answer = refl; flags = refl; values = refl; chars = refl }
 
 -- ---- the turns of the loop
 

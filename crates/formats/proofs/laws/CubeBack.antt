@@ -1,5 +1,6 @@
 -- Every CUBE record that is written reads back the same, and every record that was read is written.
 use mathlib.Core.Path.{_≡_, refl, sym, ap, _∙_, subst}
+use mathlib.Core.Bool.{true}
 use mathlib.Core.List.{List, [], _∷_, _++_}
 use Prim.Native.Nat.{ℕ, _+_, _≤_, _-_}
 use native.Mathlib.Omega.{arith}
@@ -9,10 +10,10 @@ use borrow.Author.Tests.{ltb-false, eqb-true}
 use lib.Seq.{take-at, drop-at, getD-at, length-take-le, drop-drop, take-add, take-take}
 use Rattle.columns.specs.Answer.{Answer, ok, refusal, barredByte, tooShort, differs, wrongLength}
 use Rattle.columns.specs.Bytes.{barred}
-use Rattle.columns.specs.Column.{Slot, Rec}
+use Rattle.columns.specs.Column.{Slot}
 use Rattle.columns.specs.Writing.{writeColumns, inPlace}
 use Rattle.formats.specs.Check.{checkCharacter}
-use Rattle.formats.specs.Cube.{eventColumns, event, delete, link, sealed, sealedAnswer, lowestBarred, readLine, asEvent, eventWritten, deleteWritten, deleteParts, writeMessage, Message, readEvent, readDelete}
+use Rattle.formats.specs.Cube.{eventColumns, event, delete, link, sealed, sealedAnswer, lowestBarred, readLine, asEvent, eventWritten, deleteLine, deleteParts, writeMessage, Message, readEvent, readDelete}
 use Rattle.columns.proofs.laws.Columns.{Line, columns-back, columns-more-bytes}
 use Rattle.columns.proofs.laws.Stretch.{clean-line, barred-split, barred-cons, line-clean}
 use Rattle.columns.proofs.laws.Answers.{passed, differs-same}
@@ -21,7 +22,7 @@ use Rattle.formats.proofs.laws.Cube.{line-event, event-columns, event-r
 use Rattle.columns.specs.Reading.{readColumns}
 use Rattle.columns.proofs.laws.Accepted.{columns-accepted}
 use Rattle.formats.proofs.laws.EventColumns.{event-sound}
-use Rattle.formats.proofs.laws.CubeWriting.{put-event, put-delete}
+use Rattle.formats.proofs.laws.CubeWriting.{put-event, put-text, TextPut, text-put}
 use Rattle.formats.proofs.laws.LinkBack.{ReadLink, link-read, parts-inside, link-accepted}
 use Rattle.formats.proofs.laws.Link.{text-length}
 
@@ -60,13 +61,13 @@ module _ (ns : List Slot) (t zs : List ℕ) (a : length ns ≡ 19) (b : length t
       ∙ clean-line 3 13 eventColumns 2 zs (event-sound .brackets) (event-line .size) (event-line .clean)
 
   event-sealed : readLine (sealed zs) ≡ ok (event ns t)
+  unfolding readEvent
   event-sealed =
       let n : length (sealed zs) ≡ 80 = omega (arith, head-length, length-append (69 ∷ 32 ∷ zs) (checkCharacter (69 ∷ 32 ∷ zs) ∷ [])) in
       let c : getD (sealed zs) 79 0 ≡ checkCharacter (take 79 (sealed zs)) =
       getD-at (69 ∷ 32 ∷ zs) (checkCharacter (69 ∷ 32 ∷ zs)) [] 0 79 head-length ∙ ap checkCharacter (sym head-is) in
       line-event (sealed zs) (omega arith) refl refl
-      ∙ event-columns (sealed zs) n event-clear c
-      ∙ ap asEvent (columns-more-bytes eventColumns [] 2 zs (checkCharacter (69 ∷ 32 ∷ zs) ∷ []) (omega (arith, event-width, event-sound .wide)) ∙ event-line .back)
+      ∙ ap asEvent (event-columns (sealed zs) n event-clear c ∙ columns-more-bytes eventColumns [] 2 zs (checkCharacter (69 ∷ 32 ∷ zs) ∷ []) (omega (arith, event-width, event-sound .wide)) ∙ event-line .back)
 
 event-wrote : (ns : List Slot) (t ys : List ℕ) (room : ℕ) → writeMessage (event ns t) room ≡ ok ys → Sealed (writeColumns eventColumns [] 2 ns t) ys
 unfolding writeMessage
@@ -85,31 +86,22 @@ event-size ns t ys room a b e =
 -- ---- a delete
 
 module _ (names t ys : List ℕ) (room : ℕ) (n : length names ≡ 11) (e : writeMessage (delete names t) room ≡ ok ys) where
-  record Deleted : Type 0 where
-    low : length t ≤ 67
-    clear : barred 3 13 3 (names ++ t) ≡ 0
-    is : 68 ∷ 69 ∷ (names ++ t) ≡ ys
-
-  deleted : Deleted
+  deleted : TextPut 13 80 13 (deleteLine names t) true room ys
   unfolding writeMessage
-  deleted =
-      let p = passed (ltb 67 (length t)) wrongLength 0 (inPlace room (13 + length t) (deleteWritten names t)) ys e in
-      let q = passed (ltb room (13 + length t)) tooShort 0 (deleteWritten names t) ys (p .1) in
-      let r = passed (differs (barred 3 13 3 (names ++ t)) 0) barredByte (barred 3 13 3 (names ++ t)) (ok (68 ∷ 69 ∷ (names ++ t))) ys (q .1) in
-      record { low = ltb-false 67 (length t) (p .0); clear = differs-same (barred 3 13 3 (names ++ t)) 0 (r .0); is = cc (r .1) }
+  deleted = text-put 13 80 13 (deleteLine names t) true room ys e
 
   pub delete-size : length ys ≡ 13 + length t
   delete-size = ap length (sym (deleted .is)) ∙ omega (arith, length-append names t)
 
   pub delete-low-size : length ys ≤ 80
-  delete-low-size = omega (arith, delete-size, deleted .low)
+  delete-low-size = let w = deleted in omega (arith, ap length (w .is), w .short)
 
   pub delete-back : readLine ys ≡ ok (delete names t)
   delete-back =
-      let m : length (names ++ t) ≡ 11 + length t = length-append names t ∙ omega arith in
-      ap readLine (sym (deleted .is))
-      ∙ line-delete (68 ∷ 69 ∷ (names ++ t)) (omega arith) refl refl
-      ∙ delete-read (68 ∷ 69 ∷ (names ++ t)) (omega (arith, m)) (omega (arith, m, deleted .low)) (barred-cons 3 13 1 68 (69 ∷ (names ++ t)) refl ∙ barred-cons 3 13 2 69 (names ++ t) refl ∙ deleted .clear)
+      let w = deleted in
+      ap readLine (sym (w .is))
+      ∙ line-delete (deleteLine names t) (omega arith) refl refl
+      ∙ delete-read (deleteLine names t) (w .long) (w .short) (w .clear)
       ∙ ap ok (rw (take-at names t 11 n, drop-at names t 11 n))
 
 -- ---- what was read is accepted
@@ -125,15 +117,6 @@ pub record Accepts (m : Message) : Type 0 where
   pub is : writeMessage m 255 ≡ ok bytes
   pub sized : Sized m
 
-record Was (a : Answer Rec) (m : Message) : Type 0 where
-  value : Rec
-  read : a ≡ ok value
-  is : event (value .numbers) (value .chars) ≡ m
-
-was-of : (a : Answer Rec) (m : Message) → asEvent a ≡ ok m → Was a m
-was-of (ok r) m e = record { value = r; read = refl; is = cc }
-was-of (refusal n k) m e = let z : _≡_ {A = ℕ} 0 1 = cc in let y : ⊥ = omega arith in absurd y
-
 -- nothing is barred after the type either
 pub after-type : (l s : List ℕ) → 2 ≤ length l → take 2 l ++ s ≡ l → lowestBarred l ≡ 0 → barred 3 13 3 s ≡ 0
 after-type l s h e b =
@@ -144,20 +127,19 @@ after-type l s h e b =
 
 event-accepted : (l : List ℕ) (m : Message) → readEvent l ≡ ok m → Accepts m
 event-accepted l m e =
-    let p = event-read l m e in
-    let w = was-of (readColumns eventColumns [] 2 (drop 2 l)) m (p .columns) in
-    let n : length l ≡ 80 = p .size in
+    let w = event-read l m e in
+    let n : length l ≡ 80 = w .read .size in
     let k : length (take 77 (drop 2 l)) ≡ 77 = length-take-le 77 (drop 2 l) (omega (arith, length-drop 2 l)) in
     let lt : length (take 79 l) ≡ 79 = length-take-le 79 l (omega arith) in
     let c : take 2 (take 79 l) ++ take 77 (drop 2 l) ≡ take 79 l = ap (λ (x : List ℕ). x ++ take 77 (drop 2 l)) (take-take 2 79 l (omega arith)) ∙ sym (take-add 2 77 l) in
-    let b = after-type (take 79 l) (take 77 (drop 2 l)) (omega arith) c (p .clear) in
-    let d : readColumns eventColumns [] 2 (take 77 (drop 2 l)) ≡ ok (w .value) =
-    sym (columns-more-bytes eventColumns [] 2 (take 77 (drop 2 l)) (drop 77 (drop 2 l)) (omega (arith, event-sound .wide))) ∙ ap (readColumns eventColumns [] 2) (take-append-drop 77 (drop 2 l)) ∙ w .read in
-    let x = columns-accepted eventColumns [] 2 (take 77 (drop 2 l)) (w .value) (event-sound .fine) (omega (arith, event-sound .wide)) (line-clean 3 13 eventColumns 2 (take 77 (drop 2 l)) (event-sound .brackets) (k ∙ sym (event-sound .wide)) b) d in
-    subst Accepts (w .is) (record { bytes = sealed (x .bytes); is = put-event (w .value .numbers) (w .value .chars) 255 (omega arith) (x .bytes) (x .written); sized = (x .numbers ∙ event-sound .numbers, x .chars ∙ event-sound .chars) })
+    let b = after-type (take 79 l) (take 77 (drop 2 l)) (omega arith) c (w .read .clear) in
+    let d : readColumns eventColumns [] 2 (take 77 (drop 2 l)) ≡ ok (w .row) =
+    sym (columns-more-bytes eventColumns [] 2 (take 77 (drop 2 l)) (drop 77 (drop 2 l)) (omega (arith, event-sound .wide))) ∙ ap (readColumns eventColumns [] 2) (take-append-drop 77 (drop 2 l)) ∙ w .read .columns in
+    let x = columns-accepted eventColumns [] 2 (take 77 (drop 2 l)) (w .row) (event-sound .fine) (omega (arith, event-sound .wide)) (line-clean 3 13 eventColumns 2 (take 77 (drop 2 l)) (event-sound .brackets) (k ∙ sym (event-sound .wide)) b) d in
+    subst Accepts (w .is) (record { bytes = sealed (x .bytes); is = put-event (w .row .numbers) (w .row .chars) 255 (omega arith) (x .bytes) (x .written); sized = (x .numbers ∙ event-sound .numbers, x .chars ∙ event-sound .chars) })
 
 delete-accepted : (l : List ℕ) (m : Message) → readDelete l ≡ ok m → Accepts m
-unfolding readDelete
+unfolding readDelete writeMessage
 delete-accepted l m e =
     let p = text-read 13 80 13 deleteParts l m e in
     let i : delete (take 11 (drop 2 l)) (drop 13 l) ≡ m = cc (p .rest) in
@@ -168,8 +150,10 @@ delete-accepted l m e =
     let n : length (drop 2 l) ≡ length l - 2 = length-drop 2 l in
     let j : take 11 (drop 2 l) ++ drop 13 l ≡ drop 2 l = ap (λ (x : List ℕ). take 11 (drop 2 l) ++ x) (sym d) ∙ take-append-drop 11 (drop 2 l) in
     let t : length (drop 13 l) ≡ length l - 13 = length-drop 13 l in
-    let w = put-delete (take 11 (drop 2 l)) (drop 13 l) 255 (omega arith) (omega arith) (ap (barred 3 13 3) j ∙ b) in
-    subst Accepts i (record { bytes = 68 ∷ 69 ∷ (take 11 (drop 2 l) ++ drop 13 l); is = w; sized = (length-take-le 11 (drop 2 l) (omega arith), omega arith) })
+    let s : length (deleteLine (take 11 (drop 2 l)) (drop 13 l)) ≡ length l = omega (arith, ap length j) in
+    let c : lowestBarred (deleteLine (take 11 (drop 2 l)) (drop 13 l)) ≡ 0 = barred-cons 3 13 1 68 _ refl ∙ barred-cons 3 13 2 69 _ refl ∙ ap (barred 3 13 3) j ∙ b in
+    let w = put-text 13 80 13 (deleteLine (take 11 (drop 2 l)) (drop 13 l)) true 255 (omega arith) (omega arith) (omega arith) c refl in
+    subst Accepts i (record { bytes = deleteLine (take 11 (drop 2 l)) (drop 13 l); is = w; sized = (length-take-le 11 (drop 2 l) (omega arith), omega arith) })
 
 link-sized : (l : List ℕ) {m : Message} → ReadLink l m → Sized m
 link-sized l w =

@@ -1,19 +1,17 @@
 -- What an acceptable CUBE line has: its length, and allowed bytes in identifier, source and version.
 use mathlib.Core.Path.{_≡_, refl, sym, ap, _∙_, subst}
 use mathlib.Core.Bool.{true}
-use mathlib.Core.List.{List, [], _++_}
+use mathlib.Core.List.{List, _++_}
 use Prim.Native.Nat.{ℕ, _+_, _≤_}
 use native.Mathlib.Omega.{arith}
 use lib.ListN.{length, take, drop, getD, length-drop, take-append-drop}
 use lib.Seq.{length-take-le, take-take, take-add, getD-take, getD-drop}
 use borrow.Author.Tests.{le-leb}
-use Rattle.columns.specs.Answer.{Answer, ok, refusal}
+use Rattle.columns.specs.Answer.{ok}
 use Rattle.columns.specs.Bytes.{barred, inside}
-use Rattle.columns.specs.Column.{Rec}
-use Rattle.columns.specs.Reading.{readColumns}
 use Rattle.columns.proofs.laws.Clear.{Clear, clear-take, clear-none, none-clear}
 use Rattle.columns.proofs.laws.Stretch.{barred-split}
-use Rattle.formats.specs.Cube.{Message, event, delete, link, eventColumns, asEvent, deleteParts, readEvent, readDelete, readLink, readLine}
+use Rattle.formats.specs.Cube.{Message, event, delete, link, deleteParts, readEvent, readDelete, readLink, readLine}
 use Rattle.formats.proofs.laws.Cube.{text-read, event-read, Came, by-event, by-delete, by-link, came}
 use Rattle.formats.proofs.laws.LinkBack.{ReadLink, link-read}
 use Rattle.formats.proofs.laws.CubeBack.{after-type}
@@ -33,22 +31,18 @@ pub record Fields (l : List ℕ) (m : Message) : Type 0 where
 first-clear : (s : List ℕ) → barred 3 13 3 s ≡ 0 → barred 3 13 3 (take 11 s) ≡ 0
 first-clear s e = barred-split 3 13 3 (take 11 s) (drop 11 s) (omega arith) (ap (barred 3 13 3) (take-append-drop 11 s) ∙ e) .0
 
-as-shape : (a : Answer Rec) (l : List ℕ) (m : Message) → length l ≡ 80 → asEvent a ≡ ok m → Shape l m
-as-shape (ok r) l m n e = let i : event (r .numbers) (r .chars) ≡ m = cc in subst (Shape l) i n
-as-shape (refusal j k) l m n e = let z : _≡_ {A = ℕ} 0 1 = cc in let y : ⊥ = omega arith in absurd y
-
 event-fields : (l : List ℕ) (m : Message) → readEvent l ≡ ok m → Fields l m
 event-fields l m e =
     let r = event-read l m e in
-    let n : length l ≡ 80 = r .size in
+    let n : length l ≡ 80 = r .read .size in
     let lt : length (take 79 l) ≡ 79 = length-take-le 79 l (omega arith) in
     let c : take 2 (take 79 l) ++ take 77 (drop 2 l) ≡ take 79 l = ap (λ (x : List ℕ). x ++ take 77 (drop 2 l)) (take-take 2 79 l (omega arith)) ∙ sym (take-add 2 77 l) in
-    let b = after-type (take 79 l) (take 77 (drop 2 l)) (omega arith) c (r .clear) in
+    let b = after-type (take 79 l) (take 77 (drop 2 l)) (omega arith) c (r .read .clear) in
     let f : barred 3 13 3 (take 11 (take 77 (drop 2 l))) ≡ 0 = first-clear (take 77 (drop 2 l)) b in
     record {
       long = omega arith;
       clear = ap (barred 3 13 3) (sym (take-take 11 77 (drop 2 l) (omega arith))) ∙ f;
-      shape = as-shape (readColumns eventColumns [] 2 (drop 2 l)) l m n (r .columns);
+      shape = subst (Shape l) (r .is) n;
     }
 
 delete-fields : (l : List ℕ) (m : Message) → readDelete l ≡ ok m → Fields l m

@@ -1,27 +1,34 @@
 -- Laws of CUBE records as bytes: each answer as the code comes to it, and the round trips.
-use mathlib.Core.Path.{_≡_, refl, sym, ap, _∙_}
+use mathlib.Core.Path.{_≡_, refl, sym, ap, _∙_, subst}
 use mathlib.Core.Bool.{Bool, true, false}
-use mathlib.Core.List.{List, _∷_, _++_}
+use mathlib.Core.List.{List, [], _∷_, _++_, append-assoc}
 use Prim.Native.Nat.{ℕ, _+_, _-_, _≤_, _<_}
 use native.Mathlib.Omega.{arith}
-use lib.ListN.{length, take, drop, getD, replicate, length-append, length-drop, length-take}
-use lib.Seq.{take-at, take-all, take-add, take-take, drop-drop, length-take-le}
+use lib.ListN.{length, take, drop, getD, set, replicate, length-append, length-drop}
+use lib.Seq.{slice, take-all, take-add, take-take, drop-drop, length-take-le}
 use lib.IntN.{ℤ, pos}
 use borrow.Author.Tests.{lt-ltb, le-ltb, ne-eqb}
 use Rattle.columns.specs.declared.Outcome.{Outcome}
 use Rattle.columns.specs.Answer.{pick, Answer, ok, refusal, badForm, tooShort}
-use Rattle.columns.specs.Column.{Slot}
+use Rattle.columns.specs.Column.{Slot, Rec}
 use Rattle.columns.specs.Table.{flagsOf, valuesOf, slotsOf, over, placed, Wrote, laid}
 use Rattle.columns.proofs.laws.Answers.{over-whole, done-of, refused-of}
 use Rattle.columns.proofs.laws.Table.{flags-length, values-length, slots-back}
-use Rattle.formats.specs.declared.cube.LineRead.{LineRead}
 use Rattle.formats.specs.declared.Reply.{Reply}
-use Rattle.formats.specs.Cube.{Message, event, delete, link, eventKind, deleteKind, linkKind, readLine, lineOf, writeMessage}
+use Rattle.formats.specs.declared.cube.Read.{Read}
+use Rattle.formats.specs.Link.{typeOf, addressOf}
+use Rattle.formats.specs.Cube.{Message, event, delete, link, eventKind, deleteKind, linkKind, deleteOf, readLine, lineRead, linePart, LineRead, writeMessage}
 use Rattle.columns.specs.Bytes.{sameBytes}
-use Rattle.formats.specs.Record.{packed, slotsIn, replied, Replied}
+use Rattle.formats.specs.Record.{valueBytes, packed, slotsIn, replied, Replied}
 use Rattle.formats.specs.CubeRecord.{filled, recordOf, eventIn, deleteIn, linkIn, messageIn, readRecord, recordAnswer, readInto, writeFrom}
-use Rattle.formats.proofs.laws.CubeThere.{was-event, was-delete, was-link, was-refused}
+use Rattle.columns.proofs.laws.Bytes.{slice-is}
 use Rattle.columns.proofs.laws.Places.{part-over}
+use Rattle.formats.proofs.laws.Cube.{event-part}
+use Rattle.formats.proofs.laws.Link.{type-taken, address-taken, text-word}
+use Rattle.formats.proofs.laws.LinkLine.{parts-laid}
+use Rattle.formats.proofs.laws.LinkBack.{parts-inside}
+use Rattle.formats.proofs.laws.CubeThere.{was-there, was-refused, event-there, delete-there, link-there}
+use Rattle.formats.proofs.laws.CubeWriting.{two-placed}
 use Rattle.formats.proofs.laws.Record.{numbers-length, packed-length}
 use Rattle.formats.proofs.laws.CubeBack.{Sized, line-accepted, event-size, delete-size}
 use Rattle.columns.specs.declared.Outcome.the-variants as O
@@ -76,101 +83,127 @@ module _ (l : List ℕ) (room : ℕ) where
   unfolding readInto
   into-read h = rw (le-ltb room 268 h)
 
-over-length : {A : Type 0} (xs l : List A) → length xs ≤ length l → length (over xs l) ≡ length l
-over-length xs l h = length-append xs (drop (length xs) l) ∙ omega (arith, length-drop (length xs) l)
-
 pub parts-length : (names ty ad tx : List ℕ) → length (names ++ (ty ++ (ad ++ tx))) ≡ length names + length ty + length ad + length tx
 parts-length names ty ad tx = omega (arith, length-append names (ty ++ (ad ++ tx)), length-append ty (ad ++ tx), length-append ad tx)
-
-text-of : (a : Answer Message) → ((m : Message) → a ≡ ok m → Sized m) → length (lineOf a .text) ≡ 250
-text-of (ok (event ns t)) f = let s : Sized (event ns t) = f (event ns t) refl in over-length t (replicate 250 0) (omega (arith, s .1))
-text-of (ok (delete names t)) f =
-    let s : Sized (delete names t) = f (delete names t) refl in
-    over-length (names ++ t) (replicate 250 0) (omega (arith, length-append names t, s .0, s .1))
-text-of (ok (link names ty ad tx)) f =
-    let s : Sized (link names ty ad tx) = f (link names ty ad tx) refl in
-    over-length (names ++ (ty ++ (ad ++ tx))) (replicate 250 0) (omega (arith, parts-length names ty ad tx, s .0, s .1))
-text-of (refusal n k) f = refl
-
-packed-same : {f g : List ℕ} {v w : List ℤ} {s t : List ℕ} → f ≡ g → v ≡ w → s ≡ t → _≡_ {A = Answer (List ℕ)} (ok (filled (packed eventKind g w t))) (ok (filled (packed eventKind f v s)))
-packed-same p q r = rw (p, q, r)
-
--- the bytes that the code makes of an outcome
-module _ (l : List ℕ) (r : LineRead) (e : r ≡ lineOf (readLine l)) where
-  pub text-size : length (r .text) ≡ 250
-  text-size = ap (λ (x : LineRead). length (x .text)) e ∙ text-of (readLine l) (λ m q. line-accepted l m q .sized)
-
-  module _ (k t d n : ℕ) (q : r .read ≡ R.There k t d n) where
-    pub event-record : k ≡ eventKind → recordAnswer (readLine l) ≡ ok (filled (packed eventKind (r .flags) (r .values) (take 13 (r .text))))
-    event-record h =
-        let w = was-event (readLine l) r k t d n e q h in
-        let s = line-accepted l (event (w .numbers) (w .chars)) (w .is) .sized in
-        let f : r .flags ≡ flagsOf (w .numbers) = w .flags ∙ over-whole (flagsOf (w .numbers)) (replicate 19 0) (flags-length (w .numbers) ∙ s .0) in
-        let v : r .values ≡ valuesOf (w .numbers) = w .values ∙ over-whole (valuesOf (w .numbers)) (replicate 19 (pos 0)) (values-length (w .numbers) ∙ s .0) in
-        let c : take 13 (r .text) ≡ w .chars = ap (take 13) (w .text) ∙ take-at (w .chars) _ 13 (s .1) in
-        ap recordAnswer (w .is) ∙ packed-same f v c
-
-    pub event-fits : k ≡ eventKind → length (packed eventKind (r .flags) (r .values) (take 13 (r .text))) ≤ 268
-    event-fits h =
-        let w = was-event (readLine l) r k t d n e q h in
-        let s = line-accepted l (event (w .numbers) (w .chars)) (w .is) .sized in
-        let f : length (r .flags) ≡ 19 = ap length (w .flags ∙ over-whole (flagsOf (w .numbers)) (replicate 19 0) (flags-length (w .numbers) ∙ s .0)) ∙ flags-length (w .numbers) ∙ s .0 in
-        let v : length (r .values) ≡ 19 = ap length (w .values ∙ over-whole (valuesOf (w .numbers)) (replicate 19 (pos 0)) (values-length (w .numbers) ∙ s .0)) ∙ values-length (w .numbers) ∙ s .0 in
-        omega (arith, packed-length eventKind (r .flags) (r .values) (take 13 (r .text)), length-take 13 (r .text), f, v)
-
-    pub link-low : k ≡ linkKind → t + d + n ≤ 238
-    link-low h =
-        let w = was-link (readLine l) r k t d n e q h in
-        let s = line-accepted l (link (w .names) (w .kind) (w .address) (w .chars)) (w .is) .sized in
-        omega (arith, s .1, w .kind-size, w .address-size, w .size)
-
-    pub link-record : k ≡ linkKind → recordAnswer (readLine l) ≡ ok (filled (linkKind ∷ t ∷ d ∷ n ∷ take (12 + t + d + n) (r .text)))
-    link-record h =
-        let w = was-link (readLine l) r k t d n e q h in
-        let s = line-accepted l (link (w .names) (w .kind) (w .address) (w .chars)) (w .is) .sized in
-        let m : length (w .names ++ (w .kind ++ (w .address ++ w .chars))) ≡ 12 + t + d + n = parts-length (w .names) (w .kind) (w .address) (w .chars) ∙ omega (arith, s .0, w .kind-size, w .address-size, w .size) in
-        let c : take (12 + t + d + n) (r .text) ≡ w .names ++ (w .kind ++ (w .address ++ w .chars)) = ap (take (12 + t + d + n)) (w .text) ∙ take-at (w .names ++ (w .kind ++ (w .address ++ w .chars))) _ (12 + t + d + n) m in
-        ap recordAnswer (w .is) ∙ rw (c, w .kind-size, w .address-size, w .size)
-
-    module _ (h : k ≡ eventKind → ⊥) (j : k ≡ linkKind → ⊥) where
-      pub delete-low : n ≤ 67
-      delete-low =
-          let w = was-delete (readLine l) r k t d n e q h j in
-          let s = line-accepted l (delete (w .names) (w .chars)) (w .is) .sized in
-          omega (arith, s .1, w .size)
-
-      pub delete-record : recordAnswer (readLine l) ≡ ok (filled (deleteKind ∷ n ∷ take (11 + n) (r .text)))
-      delete-record =
-          let w = was-delete (readLine l) r k t d n e q h j in
-          let s = line-accepted l (delete (w .names) (w .chars)) (w .is) .sized in
-          let m : length (w .names ++ w .chars) ≡ 11 + n = length-append (w .names) (w .chars) ∙ omega (arith, s .0, w .size) in
-          let c : take (11 + n) (r .text) ≡ w .names ++ w .chars = ap (take (11 + n)) (w .text) ∙ take-at (w .names ++ w .chars) _ (11 + n) m in
-          ap recordAnswer (w .is) ∙ rw (c, w .size)
 
 pub filled-length : (s : List ℕ) → length s ≤ 268 → length (filled s) ≡ 268
 filled-length s h = length-append s (drop (length s) (replicate 268 0)) ∙ omega (arith, length-drop {A = ℕ} (length s) (replicate 268 0))
 
-module _ (l out : List ℕ) (h : 268 ≤ length out) (r : LineRead) (e : r ≡ lineOf (readLine l)) where
-  pub read-refused : (n k : ℕ) → r .read ≡ R.Refused n k → Replied (readInto l (length out)) (P.Refused n k) out out
+pub record-size : (m : Message) → Sized m → length (recordOf m) ≡ 268
+record-size (event ns t) s =
+    filled-length (packed eventKind (flagsOf ns) (valuesOf ns) t) (omega (arith, packed-length eventKind (flagsOf ns) (valuesOf ns) t, flags-length ns, values-length ns, s .0, s .1))
+record-size (link names ty ad tx) s =
+    filled-length (linkKind ∷ length ty ∷ length ad ∷ length tx ∷ (names ++ (ty ++ (ad ++ tx)))) (omega (arith, parts-length names ty ad tx, s .0, s .1))
+record-size (delete names t) s = filled-length (deleteKind ∷ length t ∷ (names ++ t)) (omega (arith, length-append names t, s .0, s .1))
+
+-- the columns of an event stand in the arrays
+line-part : (l : List ℕ) (ns : List Slot) (s : List ℕ) → readLine l ≡ ok (event ns s) → (linePart l .numbers ≡ ns) × (linePart l .chars ≡ s)
+line-part l ns s e =
+    let w = event-there l ns s e in
+    let p : linePart l ≡ w .1 .row = rw (w .0) (event-part l (w .1 .row) (w .1 .read)) in
+    let i = w .1 .is in
+    (ap (λ (r : Rec). r .numbers) p ∙ cc, ap (λ (r : Rec). r .chars) p ∙ cc)
+
+-- a text with zeros after it fills the record
+text-fills : (fs : List ℕ) (vs : List ℤ) (t : List ℕ) → length fs ≡ 19 → length vs ≡ 19 → length t ≡ 13 → packed eventKind fs vs (over t (replicate 96 0)) ≡ filled (packed eventKind fs vs t)
+text-fills fs vs t a b c =
+    let n : length (packed eventKind fs vs t) ≡ 185 = packed-length eventKind fs vs t ∙ omega arith in
+    let z : List ℕ = drop 13 (replicate 96 0) in
+    rw (n, c) (ap (λ (x : List ℕ). eventKind ∷ x) (sym (append-assoc fs (valueBytes vs ++ t) z ∙ ap (λ (x : List ℕ). fs ++ x) (append-assoc (valueBytes vs) t z))))
+
+module _ (l out : List ℕ) (h : 268 ≤ length out) where
+  -- a record of 268 bytes, over the first of `out`
+  made : (m : Message) (bytes to : List ℕ) → readLine l ≡ ok m → bytes ≡ recordOf m → to ≡ over bytes out → Replied (readInto l (length out)) (P.Done 268) out to
+  made m bytes to e b f =
+      replied-done _ out (recordOf m) to 268 (into-read l (length out) h ∙ ap recordAnswer e) (record-size m (line-accepted l m e .sized)) (f ∙ ap (λ (x : List ℕ). over x out) b)
+
+  pub read-refused : (n k : ℕ) → lineRead (readLine l) ≡ R.Refused n k → Replied (readInto l (length out)) (P.Refused n k) out out
   read-refused n k q =
-      replied-refused _ out n k (into-read l (length out) h ∙ ap recordAnswer (was-refused (readLine l) r n k e q))
+      replied-refused _ out n k (into-read l (length out) h ∙ ap recordAnswer (was-refused (readLine l) n k q))
 
-  -- the record that the code made, copied out
-  module _ (bytes to : List ℕ) (f : to ≡ over bytes out) where
-    made : (s : List ℕ) → bytes ≡ filled s → length s ≤ 268 → recordAnswer (readLine l) ≡ ok (filled s) → Replied (readInto l (length out)) (P.Done 268) out to
-    made s b n w = replied-done _ out bytes to 268 (into-read l (length out) h ∙ w ∙ ap ok (sym b)) (ap length b ∙ filled-length s n) f
+  module _ (k t d n : ℕ) (q : lineRead (readLine l) ≡ R.There k t d n) where
+    -- an event: its numbers and text stand in the arrays, with zeros after the text
+    pub read-event : {f : List ℕ} {v : List ℤ} {x to : List ℕ} {r : Read} → LineRead (readLine l) (linePart l) r (replicate 19 0) f (replicate 19 (pos 0)) v (replicate 96 0) x → k ≡ eventKind → to ≡ over (packed eventKind f v x) out → Replied (readInto l (length out)) (P.Done 268) out to
+    read-event {f} {v} {x} {to} w i = let u = was-there (readLine l) k t d n q in by-message (u .message) (u .is) (u .says)
+      where
+        by-message : (m : Message) → readLine l ≡ ok m → lineRead (ok m) ≡ R.There k t d n → to ≡ over (packed eventKind f v x) out → Replied (readInto l (length out)) (P.Done 268) out to
+        by-message (event ns s) e p =
+            let z = line-accepted l (event ns s) e .sized in
+            let a = line-part l ns s e in
+            let m = flags-length ns ∙ z .0 in
+            let o = values-length ns ∙ z .0 in
+            let b : f ≡ flagsOf ns = w .flags ∙ rw (a .0) (over-whole (flagsOf ns) (replicate 19 0) m) in
+            let c : v ≡ valuesOf ns = w .values ∙ rw (a .0) (over-whole (valuesOf ns) (replicate 19 (pos 0)) o) in
+            let y : x ≡ over s (replicate 96 0) = w .chars ∙ rw (a .1) in
+            made (event ns s) (packed eventKind f v x) to e (rw (b, c, y) (text-fills (flagsOf ns) (valuesOf ns) s m o (z .1)))
+        by-message (delete names s) e p = let z : k ≡ deleteKind = cc in absurd (omega arith)
+        by-message (link names ty ad tx) e p = let z : k ≡ linkKind = cc in absurd (omega arith)
 
-    module _ (k t d n : ℕ) (q : r .read ≡ R.There k t d n) where
-      pub read-event : k ≡ eventKind → bytes ≡ filled (packed eventKind (r .flags) (r .values) (take 13 (r .text))) → Replied (readInto l (length out)) (P.Done 268) out to
-      read-event i b = made (packed eventKind (r .flags) (r .values) (take 13 (r .text))) b (event-fits l r e k t d n q i) (event-record l r e k t d n q i)
+    -- a link: its parts stand in the line
+    pub link-says : k ≡ linkKind → (17 + t + d ≤ length l) × ((length l ≤ 255) × (readLine l ≡ ok (link (take 12 (drop 2 l)) (take t (drop 15 l)) (take d (drop (16 + t) l)) (drop (17 + t + d) l))))
+    link-says i = let u = was-there (readLine l) k t d n q in by-message (u .message) (u .is) (u .says)
+      where
+        by-message : (m : Message) → readLine l ≡ ok m → lineRead (ok m) ≡ R.There k t d n → (17 + t + d ≤ length l) × ((length l ≤ 255) × (readLine l ≡ ok (link (take 12 (drop 2 l)) (take t (drop 15 l)) (take d (drop (16 + t) l)) (drop (17 + t + d) l))))
+        by-message (event ns s) e p = let z : k ≡ eventKind = cc in absurd (omega arith)
+        by-message (delete names s) e p = let z : k ≡ deleteKind = cc in absurd (omega arith)
+        by-message (link names ty ad tx) e p =
+            let w = link-there l names ty ad tx e .1 in
+            let j = w .is in
+            let x : typeOf l ≡ ty = cc in
+            let y : addressOf l ≡ ad = cc in
+            let a : length (typeOf l) ≡ t = ap length x ∙ cc in
+            let b : length (addressOf l) ≡ d = ap length y ∙ cc in
+            (omega (arith, parts-inside l w), (w .short, rw (← a, ← b, type-taken l, address-taken l, text-word l) (e ∙ ap ok (sym j))))
 
-      pub read-link : k ≡ linkKind → bytes ≡ filled (linkKind ∷ t ∷ d ∷ n ∷ take (12 + t + d + n) (r .text)) → Replied (readInto l (length out)) (P.Done 268) out to
-      read-link i b =
-          made (linkKind ∷ t ∷ d ∷ n ∷ take (12 + t + d + n) (r .text)) b (omega (arith, length-take (12 + t + d + n) (r .text), link-low l r e k t d n q i)) (link-record l r e k t d n q i)
+    pub read-link : {bytes to : List ℕ} → k ≡ linkKind → bytes ≡ recordOf (link (take 12 (drop 2 l)) (take t (drop 15 l)) (take d (drop (16 + t) l)) (drop (17 + t + d) l)) → to ≡ over bytes out → Replied (readInto l (length out)) (P.Done 268) out to
+    read-link {bytes} {to} i = made _ bytes to (link-says i .1 .1)
 
-      pub read-delete : (k ≡ eventKind → ⊥) → (k ≡ linkKind → ⊥) → bytes ≡ filled (deleteKind ∷ n ∷ take (11 + n) (r .text)) → Replied (readInto l (length out)) (P.Done 268) out to
-      read-delete i j b =
-          made (deleteKind ∷ n ∷ take (11 + n) (r .text)) b (omega (arith, length-take (11 + n) (r .text), delete-low l r e k t d n q i j)) (delete-record l r e k t d n q i j)
+    -- a delete: its record is the line after its type
+    pub delete-says : (k ≡ eventKind → ⊥) → (k ≡ linkKind → ⊥) → (13 ≤ length l) × ((length l ≤ 80) × (readLine l ≡ ok (deleteOf l)))
+    delete-says i j = let u = was-there (readLine l) k t d n q in by-message (u .message) (u .is) (u .says)
+      where
+        by-message : (m : Message) → readLine l ≡ ok m → lineRead (ok m) ≡ R.There k t d n → (13 ≤ length l) × ((length l ≤ 80) × (readLine l ≡ ok (deleteOf l)))
+        by-message (event ns s) e p = absurd (i (cc))
+        by-message (delete names s) e p = let w = delete-there l names s e in (w .long, (w .short, e ∙ sym (w .rest)))
+        by-message (link names ty ad tx) e p = absurd (j (cc))
+
+    pub read-delete : {bytes to : List ℕ} → (k ≡ eventKind → ⊥) → (k ≡ linkKind → ⊥) → bytes ≡ recordOf (deleteOf l) → to ≡ over bytes out → Replied (readInto l (length out)) (P.Done 268) out to
+    read-delete {bytes} {to} i j = made (deleteOf l) bytes to (delete-says i j .1 .1)
+
+-- ---- the bytes of a delete and of a link, from their lines
+
+pub delete-laid : (l : List ℕ) → 13 ≤ length l → length l ≤ 80 → {a b : List ℕ} (at : ℕ) → at ≡ 2 + 11 → a ≡ placed 2 (slice 2 (2 + 11) l) (set (set (replicate 268 0) 0 deleteKind) 1 (length l - 13)) → b ≡ placed 13 (slice at (at + (length l - 13)) l) a → b ≡ recordOf (deleteOf l)
+delete-laid l h k {a} {b} at z p q =
+    let head = deleteKind ∷ (length l - 13) ∷ [] in
+    let n : length (take 11 (drop 2 l)) ≡ 11 = length-take-le 11 (drop 2 l) (omega (arith, length-drop 2 l)) in
+    let y : slice at (at + (length l - 13)) l ≡ drop 13 l = rw z (slice-is l 13 (length l - 13) ∙ take-all (length l - 13) (drop 13 l) (omega (arith, length-drop 13 l))) in
+    let c : a ≡ over (head ++ take 11 (drop 2 l)) (replicate 268 0) = p ∙ rw (slice-is l 2 11) (part-over head (take 11 (drop 2 l)) (replicate 268 0) _ 2 (two-placed (replicate 268 0) deleteKind (length l - 13) (omega arith)) refl (omega arith)) in
+    q
+    ∙ rw y (part-over (head ++ take 11 (drop 2 l)) (drop 13 l) (replicate 268 0) a 13 c (omega arith) (omega (arith, length-drop 13 l)))
+    ∙ ap (λ (x : ℕ). filled (deleteKind ∷ x ∷ (take 11 (drop 2 l) ++ drop 13 l))) (sym (length-drop 13 l))
+
+-- a part of as many bytes
+cut : (n m : ℕ) (s : List ℕ) → take (n + m - n) s ≡ take m s
+cut n m s = let z : n + m - n ≡ m = omega arith in rw z
+
+pub link-laid : (l : List ℕ) (t d : ℕ) → 17 + t + d ≤ length l → length l ≤ 255 → {a b c e f : List ℕ}
+    → a ≡ placed 0 (linkKind ∷ t ∷ d ∷ (length l - (16 + t + d + 1)) ∷ []) (replicate 268 0)
+    → b ≡ placed 4 (take 12 (drop 2 l)) a
+    → c ≡ placed 16 (take (15 + t - 15) (drop 15 l)) b
+    → e ≡ placed (16 + t) (take (16 + t + d - (16 + t)) (drop (16 + t) l)) c
+    → f ≡ placed (16 + t + d) (take (length l - (16 + t + d + 1)) (drop (16 + t + d + 1) l)) e → f ≡ recordOf (link (take 12 (drop 2 l)) (take t (drop 15 l)) (take d (drop (16 + t) l)) (drop (17 + t + d) l))
+link-laid l t d h k {a} {b} {c} {e} {f} p q r s u =
+    let i : 16 + t + d + 1 ≡ 17 + t + d = omega arith in
+    let head = linkKind ∷ t ∷ d ∷ (length l - (16 + t + d + 1)) ∷ [] in
+    let n : length (take 12 (drop 2 l)) ≡ 12 = length-take-le 12 (drop 2 l) (omega (arith, length-drop 2 l)) in
+    let x : length (take t (drop 15 l)) ≡ t = length-take-le t (drop 15 l) (omega (arith, length-drop 15 l)) in
+    let y : length (take d (drop (16 + t) l)) ≡ d = length-take-le d (drop (16 + t) l) (omega (arith, length-drop (16 + t) l)) in
+    let z = length-drop (16 + t + d + 1) l in
+    let v = part-over head (take 12 (drop 2 l)) (replicate 268 0) a 4 p refl (omega arith) in
+    let w : f ≡ placed (16 + t + d) (drop (16 + t + d + 1) l) (placed (16 + t) (take d (drop (16 + t) l)) (placed 16 (take t (drop 15 l)) b)) = u ∙ rw (s, r, cut 15 t (drop 15 l), cut (16 + t) d (drop (16 + t) l), take-all (length l - (16 + t + d + 1)) (drop (16 + t + d + 1) l) (omega arith)) in
+    w
+    ∙ parts-laid (head ++ take 12 (drop 2 l)) (take t (drop 15 l)) (take d (drop (16 + t) l)) (drop (16 + t + d + 1) l) (replicate 268 0) 16 (16 + t) (16 + t + d) (q ∙ v) (omega arith) (omega arith) (omega arith) (omega arith)
+    ∙ rw (x, y, i, length-drop (17 + t + d) l)
 
 -- ---- a line written from a record
 
@@ -210,6 +243,18 @@ link-named r e = rw e
 pub delete-named : (r : List ℕ) → (getD r 0 0 ≡ eventKind → ⊥) → (getD r 0 0 ≡ linkKind → ⊥) → messageIn r ≡ deleteIn r
 delete-named r n m = rw (ne-eqb (getD r 0 0) eventKind n, ne-eqb (getD r 0 0) linkKind m)
 
+-- the bytes that the code made of the message that a record names
+module _ (r : List ℕ) (n : length r ≡ 268) (m : Message) (e : messageIn r ≡ m) (out bytes : List ℕ) (b : bytes ≡ recordOf m) (same : Bool) (s : same ≡ sameBytes bytes r) where
+  named : sameBytes (recordOf m) r ≡ same
+  named = ap (λ (x : List ℕ). sameBytes x r) (sym b) ∙ sym s
+
+  pub no-record : same ≡ false → Replied (writeFrom r (length out)) (P.Refused badForm 0) out out
+  no-record q = replied-refused _ out badForm 0 (from-other r (length out) n m e (named ∙ q))
+
+  pub record-reply : same ≡ true → {k : Message} → k ≡ m → {o : Outcome} {to : List ℕ} (size : ℕ) → ((ys : List ℕ) → writeMessage m (length out) ≡ ok ys → length ys ≡ size) → Wrote (writeMessage k (length out)) o out to → Replied (writeFrom r (length out)) (replied o size) out to
+  record-reply q j {o} {to} size f w =
+      replied-as _ _ _ out to (sym (from-same r (length out) n m e (named ∙ q))) (wrote-replied (subst (λ (x : Message). Wrote (writeMessage x (length out)) o out to) j w) size f)
+
 -- what the code took out of an event's record
 module _ (r : List ℕ) (n : length r ≡ 268) (flags : List ℕ) (values : List ℤ) (chars : List ℕ) (f : flags ≡ flagsOf (slotsIn 19 (take 267 (drop 1 r)) (take 248 (drop 20 r)))) (v : values ≡ valuesOf (slotsIn 19 (take 267 (drop 1 r)) (take 248 (drop 20 r)))) (t : chars ≡ over (take 13 (drop 172 r)) (replicate 13 0)) where
   abbrev numbers : List Slot
@@ -218,28 +263,26 @@ module _ (r : List ℕ) (n : length r ≡ 268) (flags : List ℕ) (values : List
   numbers-are : slotsIn 19 (take 267 (drop 1 r)) (take 248 (drop 20 r)) ≡ numbers
   numbers-are = rw (take-all 267 (drop 1 r) (omega (arith, length-drop 1 r)), take-all 248 (drop 20 r) (omega (arith, length-drop 20 r)))
 
-  chars-are : chars ≡ take 13 (drop 172 r)
-  chars-are = t ∙ over-whole (take 13 (drop 172 r)) (replicate 13 0) (length-take-le 13 (drop 172 r) (omega (arith, length-drop 172 r)))
+  event-chars : length (take 13 (drop 172 r)) ≡ 13
+  event-chars = length-take-le 13 (drop 172 r) (omega (arith, length-drop 172 r))
 
-  pub event-took : filled (packed eventKind flags values chars) ≡ recordOf (eventIn r)
+  chars-are : chars ≡ take 13 (drop 172 r)
+  chars-are = t ∙ over-whole (take 13 (drop 172 r)) (replicate 13 0) event-chars
+
+  event-took : filled (packed eventKind flags values chars) ≡ recordOf (eventIn r)
   event-took = rw (f, v, numbers-are, chars-are)
 
-  pub event-numbers : slotsOf flags values ≡ numbers
-  event-numbers = rw (f, v, numbers-are) (slots-back numbers)
+  event-is : event (slotsOf flags values) chars ≡ eventIn r
+  event-is = rw (f, v, numbers-are, slots-back numbers, chars-are)
 
   module _ (k : getD r 0 0 ≡ 1) (out bytes : List ℕ) (b : bytes ≡ filled (packed eventKind flags values chars)) (same : Bool) (s : same ≡ sameBytes bytes r) where
-    named : sameBytes (recordOf (eventIn r)) r ≡ same
-    named = ap (λ (x : List ℕ). sameBytes x r) (sym (b ∙ event-took)) ∙ sym s
-
     pub no-event : same ≡ false → Replied (writeFrom r (length out)) (P.Refused badForm 0) out out
-    no-event q = replied-refused _ out badForm 0 (from-other r (length out) n (eventIn r) (event-named r k) (named ∙ q))
+    no-event = no-record r n (eventIn r) (event-named r k) out bytes (b ∙ event-took) same s
 
     pub event-reply : same ≡ true → (o : Outcome) (to : List ℕ) → Wrote (writeMessage (event (slotsOf flags values) chars) (length out)) o out to → Replied (writeFrom r (length out)) (replied o 80) out to
-    event-reply q o to w =
-        let e : writeMessage (event (slotsOf flags values) chars) (length out) ≡ writeFrom r (length out) = rw (event-numbers, chars-are) (sym (from-same r (length out) n (eventIn r) (event-named r k) (named ∙ q))) in
-        let c : length chars ≡ 13 = ap length chars-are ∙ length-take-le 13 (drop 172 r) (omega (arith, length-drop 172 r)) in
-        let m : length (slotsOf flags values) ≡ 19 = ap length event-numbers ∙ numbers-length 19 (drop 1 r) (drop 20 r) in
-        replied-as _ _ _ out to e (wrote-replied w 80 (λ ys p. event-size (slotsOf flags values) chars ys (length out) m c p))
+    event-reply q o to =
+        record-reply r n (eventIn r) (event-named r k) out bytes (b ∙ event-took) same s q event-is 80
+        (λ ys. event-size numbers (take 13 (drop 172 r)) ys (length out) (numbers-length 19 (drop 1 r) (drop 20 r)) event-chars)
 
 -- what the code took out of a delete's record
 module _ (r : List ℕ) (n : length r ≡ 268) (k : getD r 0 0 ≡ eventKind → ⊥) (i : getD r 0 0 ≡ linkKind → ⊥) (len : ℕ) (j : getD r 1 0 ≡ len) (h : len < 256) where
@@ -249,8 +292,8 @@ module _ (r : List ℕ) (n : length r ≡ 268) (k : getD r 0 0 ≡ eventKind →
   abbrev chars : List ℕ
   chars = take len (drop 13 r)
 
-  delete-is-in : deleteIn r ≡ delete names chars
-  delete-is-in = rw j
+  delete-is-in : messageIn r ≡ delete names chars
+  delete-is-in = delete-named r k i ∙ rw j
 
   chars-length : length chars ≡ len
   chars-length = length-take-le len (drop 13 r) (omega (arith, length-drop 13 r))
@@ -258,28 +301,21 @@ module _ (r : List ℕ) (n : length r ≡ 268) (k : getD r 0 0 ≡ eventKind →
   names-length : length names ≡ 11
   names-length = length-take-le 11 (drop 2 r) (omega (arith, length-drop 2 r))
 
-  both-parts : take (13 + len - 2) (drop 2 r) ≡ names ++ chars
-  both-parts =
+  delete-took : filled (deleteKind ∷ len ∷ take (13 + len - 2) (drop 2 r)) ≡ recordOf (delete names chars)
+  delete-took =
       let z : 13 + len - 2 ≡ 11 + len = omega arith in
-      rw z (take-add 11 len (drop 2 r) ∙ rw (drop-drop 11 2 r))
+      rw (z, take-add 11 len (drop 2 r), drop-drop 11 2 r, chars-length)
 
   module _ (out bytes : List ℕ) (b : bytes ≡ filled (deleteKind ∷ len ∷ take (13 + len - 2) (drop 2 r))) (same : Bool) (s : same ≡ sameBytes bytes r) where
-    delete-is-named : sameBytes (recordOf (deleteIn r)) r ≡ same
-    delete-is-named =
-        let f : filled (deleteKind ∷ len ∷ take (13 + len - 2) (drop 2 r)) ≡ recordOf (delete names chars) = rw (both-parts, chars-length) in
-        let e : bytes ≡ recordOf (deleteIn r) = b ∙ f ∙ ap recordOf (sym delete-is-in) in
-        ap (λ (x : List ℕ). sameBytes x r) (sym e) ∙ sym s
-
     pub no-delete : same ≡ false → Replied (writeFrom r (length out)) (P.Refused badForm 0) out out
-    no-delete q = replied-refused _ out badForm 0 (from-other r (length out) n (deleteIn r) (delete-named r k i) (delete-is-named ∙ q))
+    no-delete = no-record r n (delete names chars) delete-is-in out bytes (b ∙ delete-took) same s
 
     pub delete-reply : same ≡ true → (ns : List ℕ) → ns ≡ over (take (13 - 2) (drop 2 r)) (replicate 11 0) → (o : Outcome) (to : List ℕ) → Wrote (writeMessage (delete ns (take (13 + len - 13) (drop 13 r))) (length out)) o out to → Replied (writeFrom r (length out)) (replied o (13 + len)) out to
-    delete-reply q ns f o to w =
+    delete-reply q ns f o to =
         let z : 13 + len - 13 ≡ len = omega arith in
         let a : ns ≡ names = f ∙ over-whole names (replicate 11 0) names-length in
-        let c : writeMessage (delete ns (take (13 + len - 13) (drop 13 r))) (length out) ≡ writeMessage (delete names chars) (length out) = rw (a, z) in
-        let e : writeMessage (delete names chars) (length out) ≡ writeFrom r (length out) = ap (λ (m : Message). writeMessage m (length out)) (sym delete-is-in) ∙ sym (from-same r (length out) n (deleteIn r) (delete-named r k i) (delete-is-named ∙ q)) in
-        replied-as _ _ _ out to (c ∙ e) (wrote-replied w (13 + len) (λ ys p. delete-size names chars ys (length out) names-length (sym c ∙ p) ∙ ap (λ (x : ℕ). 13 + x) chars-length))
+        record-reply r n (delete names chars) delete-is-in out bytes (b ∙ delete-took) same s q (rw (a, z)) (13 + len)
+        (λ ys p. delete-size names chars ys (length out) names-length p ∙ ap (λ (x : ℕ). 13 + x) chars-length)
 
 pub replied-is : (a : Answer (List ℕ)) (r s : Reply) (from to : List ℕ) → r ≡ s → Replied a s from to → Replied a r from to
 replied-is a r s from to e w = rw e w

@@ -2,15 +2,15 @@
 -- column of a refusal is one of the line's.
 use mathlib.Core.Path.{_≡_, refl, sym, ap, _∙_, subst}
 use mathlib.Core.Bool.{Bool, true, false, _&&_}
-use mathlib.Core.List.{List, [], _∷_, _++_}
-use Prim.Native.Nat.{ℕ, _+_, _≤_}
+use mathlib.Core.List.{List, []}
+use Prim.Native.Nat.{ℕ, _≤_}
 use native.Mathlib.Omega.{arith}
-use lib.ListN.{length, take, drop, getD, length-drop, length-take, length-append}
+use lib.ListN.{length, take, drop, getD, length-drop, length-take}
 use lib.Dec.{eqb, ltb}
 use lib.Seq.{length-take-le}
 use borrow.Author.Tests.{ltb-false}
 use Rattle.columns.specs.Answer.{pick, Answer, ok, refusal, badForm, tooShort, barredByte, unless, differs}
-use Rattle.columns.specs.Bytes.{barred, sameBytes}
+use Rattle.columns.specs.Bytes.{sameBytes}
 use Rattle.columns.specs.Column.{Rec}
 use Rattle.columns.specs.Reading.{readColumns}
 use Rattle.columns.specs.Writing.{writeColumns}
@@ -18,17 +18,14 @@ use Rattle.columns.proofs.laws.Answers.{passed, held}
 use Rattle.columns.proofs.laws.Bounds.{columnOf, pick-bound, barred-bound, read-bound, write-bound}
 use Rattle.formats.specs.Check.{checkCharacter}
 use Rattle.formats.specs.Link.{typeOf, addressOf, textOf, formed}
-use Rattle.formats.specs.Cube.{Message, event, delete, link, eventKind, deleteKind, linkKind, eventColumns, asEvent, lowestBarred, linkBarred, linkParts, isType, readEvent, readDelete, readLink, readLine, sealedAnswer, putLink, writeMessage}
-use Rattle.formats.specs.Record.{packed, slotsIn}
-use Rattle.columns.specs.Table.{flagsOf, valuesOf}
-use Rattle.columns.proofs.laws.Table.{flags-length, values-length}
+use Rattle.formats.specs.Cube.{Message, event, delete, link, eventColumns, asEvent, barredTo, lowestBarred, readText, deleteParts, linkParts, isType, eventRow, readEvent, readDelete, readLink, readLine, sealedAnswer, deleteLine, linkLine, putText, writeMessage}
 use Rattle.formats.specs.CubeRecord.{recordSize, recordOf, eventIn, deleteIn, linkIn, messageIn, readRecord, recordAnswer, readInto, lineAnswer, writeFrom}
 use Rattle.columns.proofs.laws.Bytes.{same-is}
-use Rattle.formats.proofs.laws.Record.{numbers-length, packed-length}
+use Rattle.formats.proofs.laws.Record.{numbers-length}
 use Rattle.formats.proofs.laws.EventColumns.{event-sound}
-use Rattle.formats.proofs.laws.CubeBack.{event-back, delete-back, Sized, line-accepted, event-size, delete-low-size}
+use Rattle.formats.proofs.laws.CubeBack.{event-back, delete-back, line-accepted, event-size, delete-low-size}
 use Rattle.formats.proofs.laws.LinkBack.{link-back, link-low-size}
-use Rattle.formats.proofs.laws.CubeRecord.{into-read, filled-length, parts-length}
+use Rattle.formats.proofs.laws.CubeRecord.{into-read, record-size}
 
 -- ---- one encoding
 
@@ -48,14 +45,21 @@ record-one r m e =
 
 -- ---- what is written reads back
 
-module _ (r : List ℕ) (h : length r ≡ 268) (ys : List ℕ) (room : ℕ) where
-  kind-case : (k j : Bool) → writeMessage (pick k (eventIn r) (pick j (linkIn r) (deleteIn r))) room ≡ ok ys → readLine ys ≡ ok (pick k (eventIn r) (pick j (linkIn r) (deleteIn r)))
-  kind-case true j e =
-      event-back (slotsIn 19 (drop 1 r) (drop 20 r)) (take 13 (drop 172 r)) ys room (numbers-length 19 (drop 1 r) (drop 20 r)) (length-take-le 13 (drop 172 r) (omega (arith, length-drop 172 r))) e
-  kind-case false true e =
-      link-back (take 12 (drop 4 r)) (take (getD r 1 0) (drop 16 r)) (take (getD r 2 0) (drop (16 + getD r 1 0) r)) (take (getD r 3 0) (drop (16 + getD r 1 0 + getD r 2 0) r)) ys room (length-take-le 12 (drop 4 r) (omega (arith, length-drop 4 r))) e
-  kind-case false false e =
-      delete-back (take 11 (drop 2 r)) (take (getD r 1 0) (drop 13 r)) ys room (length-take-le 11 (drop 2 r) (omega (arith, length-drop 2 r))) e
+-- the message that 268 bytes name has parts of the right sizes
+abbrev Parts : Message → Type 0
+Parts (event ns t) = (length ns ≡ 19) × (length t ≡ 13)
+Parts (delete names t) = length names ≡ 11
+Parts (link names ty ad tx) = length names ≡ 12
+
+named-parts : (r : List ℕ) → length r ≡ 268 → (k j : Bool) → Parts (pick k (eventIn r) (pick j (linkIn r) (deleteIn r)))
+named-parts r h true j = (numbers-length 19 (drop 1 r) (drop 20 r), length-take-le 13 (drop 172 r) (omega (arith, length-drop 172 r)))
+named-parts r h false true = length-take-le 12 (drop 4 r) (omega (arith, length-drop 4 r))
+named-parts r h false false = length-take-le 11 (drop 2 r) (omega (arith, length-drop 2 r))
+
+message-back : (m : Message) (ys : List ℕ) (room : ℕ) → Parts m → writeMessage m room ≡ ok ys → (readLine ys ≡ ok m) × (length ys ≤ 255)
+message-back (event ns t) ys room p e = (event-back ns t ys room (p .0) (p .1) e, omega (arith, event-size ns t ys room (p .0) (p .1) e))
+message-back (delete names t) ys room p e = (delete-back names t ys room p e, omega (arith, delete-low-size names t ys room p e))
+message-back (link names ty ad tx) ys room p e = (link-back names ty ad tx ys room p e, link-low-size names ty ad tx ys room p e)
 
 record Through (a : Answer Message) (room : ℕ) (ys : List ℕ) : Type 0 where
   value : Message
@@ -66,57 +70,55 @@ through : (a : Answer Message) (room : ℕ) (ys : List ℕ) → lineAnswer a roo
 through (ok m) room ys e = record { value = m; is = refl; wrote = e }
 through (refusal n k) room ys e = let z : _≡_ {A = ℕ} 0 1 = cc in let y : ⊥ = omega arith in absurd y
 
--- a record that is written reads back to the same bytes
-pub from-back : (r ys : List ℕ) (room : ℕ) → writeFrom r room ≡ ok ys → readInto ys 268 ≡ ok (take 268 r)
+written-back : (r ys : List ℕ) (room : ℕ) → writeFrom r room ≡ ok ys → (readInto ys 268 ≡ ok (take 268 r)) × (length ys ≤ 255)
 unfolding writeFrom
-from-back r ys room e =
+written-back r ys room e =
     let t = through (readRecord r) room ys e in
     let w = record-one r (t .value) (t .is) in
-    let n : length (take 268 r) ≡ 268 = length-take-le 268 r (w .long) in
-    let k : writeMessage (messageIn (take 268 r)) room ≡ ok ys = ap (λ (m : Message). writeMessage m room) (w .named) ∙ t .wrote in
-    let b : readLine ys ≡ ok (messageIn (take 268 r)) = kind-case (take 268 r) n ys room (eqb (getD (take 268 r) 0 0) 1) (eqb (getD (take 268 r) 0 0) 4) k in
-    into-read ys 268 (omega arith) ∙ ap recordAnswer (b ∙ ap ok (w .named)) ∙ ap ok (sym (w .bytes))
+    let p = subst Parts (w .named) (named-parts (take 268 r) (length-take-le 268 r (w .long)) (eqb (getD (take 268 r) 0 0) 1) (eqb (getD (take 268 r) 0 0) 4)) in
+    let b = message-back (t .value) ys room p (t .wrote) in
+    (into-read ys 268 (omega arith) ∙ ap recordAnswer (b .0) ∙ ap ok (sym (w .bytes)), b .1)
+
+-- a record that is written reads back to the same bytes
+pub from-back : (r ys : List ℕ) (room : ℕ) → writeFrom r room ≡ ok ys → readInto ys 268 ≡ ok (take 268 r)
+from-back r ys room e = written-back r ys room e .0
 
 -- ---- the column of a refusal
 
-as-event : (a : Answer Rec) → columnOf a ≤ 80 → columnOf (asEvent a) ≤ 80
-as-event (ok r) h = h
-as-event (refusal n k) h = h
-
 event-bound : (l : List ℕ) → columnOf (readEvent l) ≤ 80
-unfolding readEvent
+unfolding readEvent eventRow
 event-bound l =
-    let n : length (take 79 l) ≤ 79 = omega (arith, length-take 79 l) in
-    let b : lowestBarred (take 79 l) ≤ 80 = omega (arith, barred-bound 3 13 0 (take 79 l)) in
-    let c : columnOf (asEvent (readColumns eventColumns [] 2 (drop 2 l))) ≤ 80 = as-event (readColumns eventColumns [] 2 (drop 2 l)) (omega (arith, read-bound eventColumns [] 2 (drop 2 l) (event-sound .fine), event-sound .wide)) in
-    pick-bound 80 (differs (length l) 80) _ _ (omega arith)
-    (pick-bound 80 (differs (lowestBarred (take 79 l)) 0) _ _ b (pick-bound 80 (differs (getD l 79 0) (checkCharacter (take 79 l))) _ _ (omega arith) c))
+    let b : lowestBarred (take 79 l) ≤ 80 = omega (arith, barred-bound 3 13 0 (take 79 l), length-take 79 l) in
+    let c : columnOf (readColumns eventColumns [] 2 (drop 2 l)) ≤ 80 = omega (arith, read-bound eventColumns [] 2 (drop 2 l) (event-sound .fine), event-sound .wide) in
+    as-event (eventRow l)
+    (pick-bound 80 (differs (length l) 80) _ _ (omega arith)
+    (pick-bound 80 (differs (lowestBarred (take 79 l)) 0) _ _ b (pick-bound 80 (differs (getD l 79 0) (checkCharacter (take 79 l))) _ _ (omega arith) c)))
+  where
+    as-event : (a : Answer Rec) → columnOf a ≤ 80 → columnOf (asEvent a) ≤ 80
+    as-event (ok r) h = h
+    as-event (refusal n k) h = h
 
 -- a test on a length, before what holds of bytes within the limit
 limit-case : {A : Type 0} (m most : ℕ) (t : Bool) (s : List ℕ) (x : Answer A) → ltb most (length s) ≡ t → (length s ≤ most → columnOf x ≤ m) → columnOf (unless t 1 0 x) ≤ m
 limit-case m most true s x e f = omega arith
 limit-case m most false s x e f = f (ltb-false most (length s) e)
 
-delete-bound : (l : List ℕ) → columnOf (readDelete l) ≤ 80
-unfolding readDelete
-delete-bound l =
-    pick-bound 80 (ltb (length l) 13) _ _ (omega arith)
-    (limit-case 80 80 (ltb 80 (length l)) l _ refl
-    (λ h. pick-bound 80 (differs (lowestBarred l) 0) (refusal barredByte (lowestBarred l)) (ok (delete (take 11 (drop 2 l)) (drop 13 l))) (omega (arith, barred-bound 3 13 0 l)) (omega arith)))
+text-bound : {A : Type 0} (low high last : ℕ) (parts : List ℕ → Answer A) (l : List ℕ) → columnOf (parts l) ≤ high → columnOf (readText low high last parts l) ≤ high
+text-bound low high last parts l b =
+    pick-bound high (ltb (length l) low) _ _ (omega arith)
+    (limit-case high high (ltb high (length l)) l _ refl
+    (λ h. pick-bound high (differs (barredTo last l) 0) (refusal barredByte (barredTo last l)) (parts l) (omega (arith, barred-bound 3 last 0 l)) b))
 
-link-bound : (l : List ℕ) → columnOf (readLink l) ≤ 255
-unfolding readLink linkParts
-link-bound l =
-    pick-bound 255 (ltb (length l) 20) _ _ (omega arith)
-    (limit-case 255 255 (ltb 255 (length l)) l _ refl
-    (λ h. pick-bound 255 (differs (linkBarred l) 0) (refusal barredByte (linkBarred l)) _ (omega (arith, barred-bound 3 14 0 l)) (pick-bound 255 (eqb (getD l 14 0) 32 && formed (typeOf l) (addressOf l) (textOf l)) _ _ (omega arith) (omega arith))))
+link-bound : (l : List ℕ) → columnOf (linkParts l) ≤ 255
+unfolding linkParts
+link-bound l = pick-bound 255 (eqb (getD l 14 0) 32 && formed (typeOf l) (addressOf l) (textOf l)) _ _ (omega arith) (omega arith)
 
 pub line-bound : (l : List ℕ) → columnOf (readLine l) ≤ 255
-unfolding readLine
+unfolding readLine readDelete readLink
 line-bound l =
     pick-bound 255 (ltb (length l) 2) _ _ (omega arith)
     (pick-bound 255 (isType 69 32 l) _ _ (omega (arith, event-bound l))
-    (pick-bound 255 (isType 68 69 l) _ _ (omega (arith, delete-bound l)) (pick-bound 255 (isType 76 73 l) _ _ (link-bound l) (omega arith))))
+    (pick-bound 255 (isType 68 69 l) _ _ (omega (arith, text-bound 13 80 13 deleteParts l (omega arith))) (pick-bound 255 (isType 76 73 l) _ _ (text-bound 20 255 14 linkParts l (link-bound l)) (omega arith))))
 
 as-record : (a : Answer Message) → columnOf a ≤ 255 → columnOf (recordAnswer a) ≤ 255
 as-record (ok m) h = h
@@ -126,36 +128,24 @@ pub into-bound : (l : List ℕ) (room : ℕ) → columnOf (readInto l room) ≤ 
 unfolding readInto
 into-bound l room = pick-bound 255 (ltb room recordSize) _ _ (omega arith) (as-record (readLine l) (line-bound l))
 
-as-sealed : (a : Answer (List ℕ)) → columnOf a ≤ 80 → columnOf (sealedAnswer a) ≤ 80
+as-sealed : (a : Answer (List ℕ)) → columnOf a ≤ 255 → columnOf (sealedAnswer a) ≤ 255
 as-sealed (ok ys) h = h
 as-sealed (refusal n k) h = h
 
-put-bound : (l : List ℕ) (f : Bool) (room : ℕ) → columnOf (putLink l f room) ≤ 255
-unfolding putLink
-put-bound l f room =
-    pick-bound 255 (ltb (length l) 20) _ _ (omega arith)
-    (limit-case 255 255 (ltb 255 (length l)) l _ refl
-    (λ h. pick-bound 255 (ltb room (length l)) _ _ (omega arith)
-    (pick-bound 255 (differs (linkBarred l) 0) (refusal barredByte (linkBarred l)) _ (omega (arith, barred-bound 3 14 0 l)) (pick-bound 255 f (ok l) (refusal badForm 15) (omega arith) (omega arith)))))
+put-bound : (low last : ℕ) (l : List ℕ) (f : Bool) (room high : ℕ) → 15 ≤ high → columnOf (putText low high last l f room) ≤ high
+unfolding putText
+put-bound low last l f room high m =
+    pick-bound high (ltb (length l) low) _ _ (omega arith)
+    (limit-case high high (ltb high (length l)) l _ refl
+    (λ h. pick-bound high (ltb room (length l)) _ _ (omega arith)
+    (pick-bound high (differs (barredTo last l) 0) (refusal barredByte (barredTo last l)) _ (omega (arith, barred-bound 3 last 0 l)) (pick-bound high f (ok l) (refusal badForm 15) (omega arith) m))))
 
-module _ (r : List ℕ) (room : ℕ) where
-  event-or-delete : (k : Bool) → columnOf (writeMessage (pick k (eventIn r) (deleteIn r)) room) ≤ 80
-  unfolding writeMessage
-  event-or-delete true =
-      let a : columnOf (writeColumns eventColumns [] 2 (slotsIn 19 (drop 1 r) (drop 20 r)) (take 13 (drop 172 r))) ≤ 80 = omega (arith, write-bound eventColumns [] 2 (slotsIn 19 (drop 1 r) (drop 20 r)) (take 13 (drop 172 r)) (event-sound .fine), event-sound .wide) in
-      pick-bound 80 (ltb room 80) _ _ (omega arith) (as-sealed (writeColumns eventColumns [] 2 (slotsIn 19 (drop 1 r) (drop 20 r)) (take 13 (drop 172 r))) a)
-  event-or-delete false =
-      let s : List ℕ = take (getD r 1 0) (drop 13 r) in
-      let l : List ℕ = take 11 (drop 2 r) ++ take (getD r 1 0) (drop 13 r) in
-      limit-case 80 67 (ltb 67 (length (take (getD r 1 0) (drop 13 r)))) (take (getD r 1 0) (drop 13 r)) _ refl
-      (λ h. pick-bound 80 (ltb room (13 + length (take (getD r 1 0) (drop 13 r)))) _ _ (omega arith)
-      (pick-bound 80 (differs (barred 3 13 3 l) 0) (refusal barredByte (barred 3 13 3 l)) (ok (68 ∷ 69 ∷ l)) (omega (arith, barred-bound 3 13 2 l, length-append (take 11 (drop 2 r)) (take (getD r 1 0) (drop 13 r)), length-take 11 (drop 2 r), h)) (omega arith)))
-
-  written-bound : (k j : Bool) → columnOf (writeMessage (pick k (eventIn r) (pick j (linkIn r) (deleteIn r))) room) ≤ 255
-  unfolding writeMessage
-  written-bound true j = omega (arith, event-or-delete true)
-  written-bound false true = put-bound _ _ room
-  written-bound false false = omega (arith, event-or-delete false)
+message-bound : (m : Message) (room : ℕ) → columnOf (writeMessage m room) ≤ 255
+unfolding writeMessage
+message-bound (event ns t) room =
+    pick-bound 255 (ltb room 80) _ _ (omega arith) (as-sealed (writeColumns eventColumns [] 2 ns t) (omega (arith, write-bound eventColumns [] 2 ns t (event-sound .fine), event-sound .wide)))
+message-bound (delete names t) room = omega (arith, put-bound 13 13 (deleteLine names t) true room 80 (omega arith))
+message-bound (link names ty ad tx) room = put-bound 20 14 (linkLine names ty ad tx) (formed ty ad tx) room 255 (omega arith)
 
 -- bytes that are no record are refused at column 0
 none-case : (t u : Bool) (m : Message) (n k : ℕ) → unless t badForm 0 (pick u (ok m) (refusal badForm 0)) ≡ refusal n k → k ≡ 0
@@ -172,19 +162,10 @@ unfolding writeFrom
 from-bound r room = by-record (readRecord r) refl
   where
     by-record : (a : Answer Message) → readRecord r ≡ a → columnOf (lineAnswer a room) ≤ 255
-    by-record (ok m) e =
-        let w = record-one r m e in
-        subst (λ (x : Message). columnOf (writeMessage x room) ≤ 255) (w .named) (written-bound (take 268 r) room (eqb (getD (take 268 r) 0 0) 1) (eqb (getD (take 268 r) 0 0) 4))
+    by-record (ok m) e = message-bound m room
     by-record (refusal n k) e = none-bound r n k e
 
 -- ---- the number of bytes written
-
-record-size : (m : Message) → Sized m → length (recordOf m) ≡ 268
-record-size (event ns t) s =
-    filled-length (packed eventKind (flagsOf ns) (valuesOf ns) t) (omega (arith, packed-length eventKind (flagsOf ns) (valuesOf ns) t, flags-length ns, values-length ns, s .0, s .1))
-record-size (link names ty ad tx) s =
-    filled-length (linkKind ∷ length ty ∷ length ad ∷ length tx ∷ (names ++ (ty ++ (ad ++ tx)))) (omega (arith, parts-length names ty ad tx, s .0, s .1))
-record-size (delete names t) s = filled-length (deleteKind ∷ length t ∷ (names ++ t)) (omega (arith, length-append names t, s .0, s .1))
 
 -- the bytes written, where there are some
 abbrev pub sizeOf : Answer (List ℕ) → ℕ
@@ -207,22 +188,5 @@ into-size l room = by-test (ltb room recordSize)
     by-test true = omega arith
     by-test false = by-line (readLine l) refl
 
-module _ (r : List ℕ) (h : length r ≡ 268) (room : ℕ) where
-  line-size : (k j : Bool) (ys : List ℕ) → writeMessage (pick k (eventIn r) (pick j (linkIn r) (deleteIn r))) room ≡ ok ys → length ys ≤ 255
-  line-size true j ys e =
-      omega (arith, event-size (slotsIn 19 (drop 1 r) (drop 20 r)) (take 13 (drop 172 r)) ys room (numbers-length 19 (drop 1 r) (drop 20 r)) (length-take-le 13 (drop 172 r) (omega (arith, length-drop 172 r))) e)
-  line-size false true ys e =
-      link-low-size (take 12 (drop 4 r)) (take (getD r 1 0) (drop 16 r)) (take (getD r 2 0) (drop (16 + getD r 1 0) r)) (take (getD r 3 0) (drop (16 + getD r 1 0 + getD r 2 0) r)) ys room (length-take-le 12 (drop 4 r) (omega (arith, length-drop 4 r))) e
-  line-size false false ys e =
-      omega (arith, delete-low-size (take 11 (drop 2 r)) (take (getD r 1 0) (drop 13 r)) ys room (length-take-le 11 (drop 2 r) (omega (arith, length-drop 2 r))) e)
-
-written-size : (r : List ℕ) (room : ℕ) (ys : List ℕ) → writeFrom r room ≡ ok ys → length ys ≤ 255
-unfolding writeFrom
-written-size r room ys e =
-    let t = through (readRecord r) room ys e in
-    let w = record-one r (t .value) (t .is) in
-    let n : length (take 268 r) ≡ 268 = length-take-le 268 r (w .long) in
-    line-size (take 268 r) n room (eqb (getD (take 268 r) 0 0) 1) (eqb (getD (take 268 r) 0 0) 4) ys (ap (λ (m : Message). writeMessage m room) (w .named) ∙ t .wrote)
-
 pub from-size : (r : List ℕ) (room : ℕ) → sizeOf (writeFrom r room) ≤ 255
-from-size r room = size-bound 255 (writeFrom r room) (written-size r room)
+from-size r room = size-bound 255 (writeFrom r room) (λ ys e. written-back r ys room e .1)

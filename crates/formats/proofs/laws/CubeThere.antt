@@ -1,94 +1,58 @@
--- What the outcome of reading a line says of its answer: the kind of the record that is there, or the refusal.
-use mathlib.Core.Path.{_≡_, refl, sym, ap, _∙_}
-use mathlib.Core.List.{List, _++_}
+-- What a line's outcome and its message say of it: the kind of the record that is there, or the refusal.
+use mathlib.Core.Path.{_≡_, refl, ap, _∙_}
+use mathlib.Core.Bool.{true}
+use mathlib.Core.List.{List}
 use Prim.Native.Nat.{ℕ}
 use native.Mathlib.Omega.{arith}
-use lib.ListN.{length, replicate}
-use lib.IntN.{pos}
 use Rattle.columns.specs.Answer.{Answer, ok, refusal}
 use Rattle.columns.specs.Column.{Slot}
-use Rattle.columns.specs.Table.{flagsOf, valuesOf, over}
-use Rattle.formats.specs.declared.cube.Read.{Read}
-use Rattle.formats.specs.declared.cube.LineRead.{LineRead}
-use Rattle.formats.specs.Cube.{Message, event, delete, link, eventKind, deleteKind, linkKind, lineOf}
+use Rattle.formats.specs.Cube.{Message, event, delete, link, deleteParts, isType, readDelete, readLine, lineRead}
+use Rattle.formats.proofs.laws.Cube.{TextRead, text-read, EventRead, event-read, Came, by-event, by-delete, by-link, came}
+use Rattle.formats.proofs.laws.LinkBack.{ReadLink, link-read}
 use Rattle.formats.specs.declared.cube.Read.the-variants as R
 
--- what the outcome says of the answer
-pub record WasEvent (a : Answer Message) (r : LineRead) : Type 0 where
-  pub numbers : List Slot
-  pub chars : List ℕ
-  pub is : a ≡ ok (event numbers chars)
-  pub flags : r .flags ≡ over (flagsOf numbers) (replicate 19 0)
-  pub values : r .values ≡ over (valuesOf numbers) (replicate 19 (pos 0))
-  pub text : r .text ≡ over chars (replicate 250 0)
+-- ---- by the outcome
 
-pub record WasDelete (a : Answer Message) (r : LineRead) (n : ℕ) : Type 0 where
-  pub names : List ℕ
-  pub chars : List ℕ
-  pub is : a ≡ ok (delete names chars)
-  pub size : length chars ≡ n
-  pub text : r .text ≡ over (names ++ chars) (replicate 250 0)
+pub record WasThere (a : Answer Message) (k t d n : ℕ) : Type 0 where
+  pub message : Message
+  pub is : a ≡ ok message
+  pub says : lineRead (ok message) ≡ R.There k t d n
 
-pub record WasLink (a : Answer Message) (r : LineRead) (t d n : ℕ) : Type 0 where
-  pub names : List ℕ
-  pub kind : List ℕ
-  pub address : List ℕ
-  pub chars : List ℕ
-  pub is : a ≡ ok (link names kind address chars)
-  pub kind-size : length kind ≡ t
-  pub address-size : length address ≡ d
-  pub size : length chars ≡ n
-  pub text : r .text ≡ over (names ++ (kind ++ (address ++ chars))) (replicate 250 0)
+pub was-there : (a : Answer Message) (k t d n : ℕ) → lineRead a ≡ R.There k t d n → WasThere a k t d n
+was-there (ok m) k t d n e = record { message = m; is = refl; says = e }
+was-there (refusal m j) k t d n e = let z : _≡_ {A = ℕ} 0 1 = cc in let y : ⊥ = omega arith in absurd y
 
--- a record that is there is of one of the three kinds
-pub data WasThere (a : Answer Message) (r : LineRead) (k t d n : ℕ) : Type 0 where
-  an-event : k ≡ eventKind → WasEvent a r → WasThere a r k t d n
-  a-delete : k ≡ deleteKind → WasDelete a r n → WasThere a r k t d n
-  a-link : k ≡ linkKind → WasLink a r t d n → WasThere a r k t d n
+pub was-refused : (a : Answer Message) (n k : ℕ) → lineRead a ≡ R.Refused n k → a ≡ refusal n k
+was-refused (ok (event ns t)) n k e = let z : _≡_ {A = ℕ} 0 1 = cc in let y : ⊥ = omega arith in absurd y
+was-refused (ok (delete names t)) n k e = let z : _≡_ {A = ℕ} 0 1 = cc in let y : ⊥ = omega arith in absurd y
+was-refused (ok (link names ty ad tx)) n k e = let z : _≡_ {A = ℕ} 0 1 = cc in let y : ⊥ = omega arith in absurd y
+was-refused (refusal m j) n k e = cc
 
-read-is : (a : Answer Message) (r : LineRead) → r ≡ lineOf a → (x : Read) → r .read ≡ x → lineOf a .read ≡ x
-read-is a r e x q = sym (ap (λ (u : LineRead). u .read) e) ∙ q
+-- ---- by the message
 
-pub was-there : (a : Answer Message) (r : LineRead) (k t d n : ℕ) → r ≡ lineOf a → r .read ≡ R.There k t d n → WasThere a r k t d n
-was-there (ok (event ns s)) r k t d n e q =
-    let p : R.There eventKind 0 0 0 ≡ R.There k t d n = read-is (ok (event ns s)) r e (R.There k t d n) q in
-    an-event (cc) (record { numbers = ns; chars = s; is = refl; flags = ap (λ (x : LineRead). x .flags) e; values = ap (λ (x : LineRead). x .values) e; text = ap (λ (x : LineRead). x .text) e })
-was-there (ok (delete names s)) r k t d n e q =
-    let p : R.There deleteKind 0 0 (length s) ≡ R.There k t d n = read-is (ok (delete names s)) r e (R.There k t d n) q in
-    a-delete (cc) (record { names = names; chars = s; is = refl; size = cc; text = ap (λ (x : LineRead). x .text) e })
-was-there (ok (link names ty ad tx)) r k t d n e q =
-    let p : R.There linkKind (length ty) (length ad) (length tx) ≡ R.There k t d n = read-is (ok (link names ty ad tx)) r e (R.There k t d n) q in
-    a-link (cc)
-    (record { names = names; kind = ty; address = ad; chars = tx; is = refl; kind-size = cc; address-size = cc; size = cc; text = ap (λ (x : LineRead). x .text) e })
-was-there (refusal m j) r k t d n e q = let p : R.Refused m j ≡ R.There k t d n = read-is (refusal m j) r e (R.There k t d n) q in let z : _≡_ {A = ℕ} 0 1 = cc in let y : ⊥ = omega arith in absurd y
+event-came : (l : List ℕ) (ns : List Slot) (s : List ℕ) → Came l (event ns s) → (isType 69 32 l ≡ true) × EventRead l (event ns s)
+unfolding readDelete
+event-came l ns s (by-event t e) = (t, event-read l _ e)
+event-came l ns s (by-delete e) = let r = text-read 13 80 13 deleteParts l _ e .rest in let z : _≡_ {A = ℕ} 0 1 = cc in absurd (omega arith)
+event-came l ns s (by-link t e) = let r = link-read l _ e .is in let z : _≡_ {A = ℕ} 0 1 = cc in absurd (omega arith)
 
-module _ (a : Answer Message) (r : LineRead) (k t d n : ℕ) (e : r ≡ lineOf a) (q : r .read ≡ R.There k t d n) where
-  pub was-event : k ≡ eventKind → WasEvent a r
-  was-event h =
-      elim (was-there a r k t d n e q) [
-        | an-event i w ↦ w
-        | a-delete i w ↦ absurd (omega arith)
-        | a-link i w ↦ absurd (omega arith)
-      ]
+pub event-there : (l : List ℕ) (ns : List Slot) (s : List ℕ) → readLine l ≡ ok (event ns s) → (isType 69 32 l ≡ true) × EventRead l (event ns s)
+event-there l ns s e = event-came l ns s (came l (event ns s) e)
 
-  pub was-link : k ≡ linkKind → WasLink a r t d n
-  was-link h =
-      elim (was-there a r k t d n e q) [
-        | an-event i w ↦ absurd (omega arith)
-        | a-delete i w ↦ absurd (omega arith)
-        | a-link i w ↦ w
-      ]
+delete-came : (l names s : List ℕ) → Came l (delete names s) → TextRead 13 80 13 deleteParts l (delete names s)
+unfolding readDelete
+delete-came l names s (by-event t e) = let r = event-read l _ e .is in let z : _≡_ {A = ℕ} 0 1 = cc in absurd (omega arith)
+delete-came l names s (by-delete e) = text-read 13 80 13 deleteParts l _ e
+delete-came l names s (by-link t e) = let r = link-read l _ e .is in let z : _≡_ {A = ℕ} 0 1 = cc in absurd (omega arith)
 
-  pub was-delete : (k ≡ eventKind → ⊥) → (k ≡ linkKind → ⊥) → WasDelete a r n
-  was-delete h j =
-      elim (was-there a r k t d n e q) [
-        | an-event i w ↦ absurd (h i)
-        | a-delete i w ↦ w
-        | a-link i w ↦ absurd (j i)
-      ]
+pub delete-there : (l names s : List ℕ) → readLine l ≡ ok (delete names s) → TextRead 13 80 13 deleteParts l (delete names s)
+delete-there l names s e = delete-came l names s (came l (delete names s) e)
 
-pub was-refused : (a : Answer Message) (r : LineRead) (n k : ℕ) → r ≡ lineOf a → r .read ≡ R.Refused n k → a ≡ refusal n k
-was-refused (ok (event ns t)) r n k e q = let p : R.There eventKind 0 0 0 ≡ R.Refused n k = read-is (ok (event ns t)) r e (R.Refused n k) q in let z : _≡_ {A = ℕ} 0 1 = cc in let y : ⊥ = omega arith in absurd y
-was-refused (ok (delete names t)) r n k e q = let p : R.There deleteKind 0 0 (length t) ≡ R.Refused n k = read-is (ok (delete names t)) r e (R.Refused n k) q in let z : _≡_ {A = ℕ} 0 1 = cc in let y : ⊥ = omega arith in absurd y
-was-refused (ok (link names ty ad tx)) r n k e q = let p : R.There linkKind (length ty) (length ad) (length tx) ≡ R.Refused n k = read-is (ok (link names ty ad tx)) r e (R.Refused n k) q in let z : _≡_ {A = ℕ} 0 1 = cc in let y : ⊥ = omega arith in absurd y
-was-refused (refusal m j) r n k e q = let p : R.Refused m j ≡ R.Refused n k = read-is (refusal m j) r e (R.Refused n k) q in cc
+link-came : (l names ty ad tx : List ℕ) → Came l (link names ty ad tx) → (isType 76 73 l ≡ true) × ReadLink l (link names ty ad tx)
+unfolding readDelete
+link-came l names ty ad tx (by-event t e) = let r = event-read l _ e .is in let z : _≡_ {A = ℕ} 0 1 = cc in absurd (omega arith)
+link-came l names ty ad tx (by-delete e) = let r = text-read 13 80 13 deleteParts l _ e .rest in let z : _≡_ {A = ℕ} 0 1 = cc in absurd (omega arith)
+link-came l names ty ad tx (by-link t e) = (t, link-read l _ e)
+
+pub link-there : (l names ty ad tx : List ℕ) → readLine l ≡ ok (link names ty ad tx) → (isType 76 73 l ≡ true) × ReadLink l (link names ty ad tx)
+link-there l names ty ad tx e = link-came l names ty ad tx (came l (link names ty ad tx) e)

@@ -1,65 +1,66 @@
 -- Each answer of a CUBE record that is written, as the code comes to it, and the bytes of its line.
 use mathlib.Core.Path.{_≡_, refl, sym, ap, _∙_}
+use mathlib.Core.Bool.{Bool, true, false}
 use mathlib.Core.List.{List, [], _∷_, _++_}
 use Prim.Native.Nat.{ℕ, _+_, _≤_, _<_}
 use native.Mathlib.Omega.{arith}
 use lib.ListN.{length, take, set, replicate, length-append, length-set}
-use borrow.Author.Tests.{le-ltb, lt-ltb}
+use lib.Dec.{ltb}
+use borrow.Author.Tests.{le-ltb, lt-ltb, ltb-false}
 use lib.Seq.{take-at, take-all, set-at}
 use Rattle.columns.specs.declared.Outcome.{Outcome}
-use Rattle.columns.specs.Answer.{ok, refusal, barredByte, tooShort, wrongLength}
-use Rattle.columns.specs.Bytes.{barred}
+use Rattle.columns.specs.Answer.{pick, ok, refusal, unless, differs, barredByte, badForm, tooShort, wrongLength}
 use Rattle.columns.specs.Column.{Slot}
-use Rattle.columns.specs.Writing.{writeColumns, writePart}
+use Rattle.columns.specs.Writing.{writeColumns, writePart, inPlace}
 use Rattle.columns.specs.Table.{over, placed, Wrote, WrotePart}
 use Rattle.formats.specs.Check.{checkCharacter}
-use Rattle.formats.specs.Cube.{eventColumns, event, delete, sealed, writeMessage}
-use Rattle.columns.proofs.laws.Places.{set-placed, placed-placed, placed-split}
-use Rattle.columns.proofs.laws.Answers.{wrote-refused, wrote-whole, refused-of, done-of, differs-not, differs-is}
+use Rattle.formats.specs.Cube.{eventColumns, event, deleteLine, sealed, barredTo, textWritten, putText, writeMessage}
+use Rattle.columns.proofs.laws.Places.{set-placed, placed-placed, placed-split, part-over}
+use Rattle.columns.proofs.laws.Answers.{passed, held, wrote-refused, wrote-whole, refused-of, done-of, differs-not, differs-same}
 use Rattle.columns.proofs.laws.Columns.{columns-size}
 use Rattle.columns.proofs.laws.Writer.{part-wrote}
-use Rattle.columns.proofs.laws.Stretch.{barred-first, barred-after}
 use Rattle.formats.proofs.laws.EventColumns.{event-sound}
 use Rattle.columns.specs.declared.Outcome.the-variants as O
 
--- ---- a delete
+-- ---- a DE or an LI line
 
-module _ (names t : List ℕ) (room : ℕ) where
-  pub put-delete-long : 67 < length t → writeMessage (delete names t) room ≡ refusal wrongLength 0
-  unfolding writeMessage
-  put-delete-long h = rw (lt-ltb _ _ h)
+module _ (low high last : ℕ) (l : List ℕ) (f : Bool) (room : ℕ) where
+  pub put-text : low ≤ length l → length l ≤ high → length l ≤ room → barredTo last l ≡ 0 → f ≡ true → putText low high last l f room ≡ ok l
+  unfolding putText
+  put-text h k r b e = rw (le-ltb _ _ h, le-ltb _ _ k, le-ltb _ _ r, differs-not (barredTo last l) 0 b, e)
 
-  module _ (h : length t ≤ 67) where
-    pub put-delete-short : room < 13 + length t → writeMessage (delete names t) room ≡ refusal tooShort 0
-    unfolding writeMessage
-    put-delete-short k = rw (le-ltb _ _ h, lt-ltb _ _ k)
+  pub put-long : high < length l → putText low high last l f room ≡ refusal wrongLength 0
+  unfolding putText
+  put-long h = rw (lt-ltb _ _ h) (by-test (ltb (length l) low))
+    where
+      by-test : (t : Bool) → unless {A = List ℕ} t wrongLength 0 (refusal wrongLength 0) ≡ refusal wrongLength 0
+      by-test true = refl
+      by-test false = refl
 
-    module _ (k : 13 + length t ≤ room) where
-      pub put-delete-barred : (barred 3 13 3 (names ++ t) ≡ 0 → ⊥) → writeMessage (delete names t) room ≡ refusal barredByte (barred 3 13 3 (names ++ t))
-      unfolding writeMessage
-      put-delete-barred b = rw (le-ltb _ _ h, le-ltb _ _ k, differs-is (barred 3 13 3 (names ++ t)) 0 b)
+  -- what a line that is written says
+  pub record TextPut (ys : List ℕ) : Type 0 where
+    pub long : low ≤ length l
+    pub short : length l ≤ high
+    pub clear : barredTo last l ≡ 0
+    pub parts : f ≡ true
+    pub is : l ≡ ys
 
-      pub put-delete : barred 3 13 3 (names ++ t) ≡ 0 → writeMessage (delete names t) room ≡ ok (68 ∷ 69 ∷ (names ++ t))
-      unfolding writeMessage
-      put-delete b = rw (le-ltb _ _ h, le-ltb _ _ k, differs-not (barred 3 13 3 (names ++ t)) 0 b)
-
-      -- a barred byte in the names, and one in the text after clear names
-      pub put-names-barred : (x : ℕ) → x ≡ barred 3 13 3 names → (x ≡ 0 → ⊥) → writeMessage (delete names t) room ≡ refusal barredByte x
-      put-names-barred x e b =
-          let z : barred 3 13 3 (names ++ t) ≡ x = barred-first 3 13 3 names t (λ q. b (e ∙ q)) ∙ sym e in
-          put-delete-barred (λ q. b (sym z ∙ q)) ∙ ap (refusal barredByte) z
-
-      module _ (n : length names ≡ 11) (c : barred 3 13 3 names ≡ 0) where
-        text-barred : barred 3 13 3 (names ++ t) ≡ barred 3 13 14 t
-        text-barred = let z : 3 + length names ≡ 14 = omega arith in barred-after 3 13 3 names t (omega arith) c ∙ ap (λ (m : ℕ). barred 3 13 m t) z
-
-        pub put-text-barred : (x : ℕ) → x ≡ barred 3 13 14 t → (x ≡ 0 → ⊥) → writeMessage (delete names t) room ≡ refusal barredByte x
-        put-text-barred x e b =
-            let z : barred 3 13 3 (names ++ t) ≡ x = text-barred ∙ sym e in
-            put-delete-barred (λ q. b (sym z ∙ q)) ∙ ap (refusal barredByte) z
-
-        pub put-delete-clear : barred 3 13 14 t ≡ 0 → writeMessage (delete names t) room ≡ ok (68 ∷ 69 ∷ (names ++ t))
-        put-delete-clear e = put-delete (text-barred ∙ e)
+  pub text-put : (ys : List ℕ) → putText low high last l f room ≡ ok ys → TextPut ys
+  unfolding putText
+  text-put ys e =
+      let written = textWritten last l f in
+      let p = passed (ltb (length l) low) wrongLength 0 (unless (ltb high (length l)) wrongLength 0 (inPlace room (length l) written)) ys e in
+      let q = passed (ltb high (length l)) wrongLength 0 (inPlace room (length l) written) ys (p .1) in
+      let r = passed (ltb room (length l)) tooShort 0 written ys (q .1) in
+      let s = passed (differs (barredTo last l) 0) barredByte (barredTo last l) (pick f (ok l) (refusal badForm 15)) ys (r .1) in
+      let t = held f badForm 15 (ok l) ys (s .1) in
+      record {
+        long = ltb-false (length l) low (p .0);
+        short = ltb-false high (length l) (q .0);
+        clear = differs-same (barredTo last l) 0 (s .0);
+        parts = t .0;
+        is = cc (t .1);
+      }
 
 pub two-placed : (l : List ℕ) (a b : ℕ) → 2 ≤ length l → set (set l 0 a) 1 b ≡ placed 0 (a ∷ b ∷ []) l
 two-placed l a b h =
@@ -67,21 +68,13 @@ two-placed l a b h =
     ∙ ap (placed 1 (b ∷ [])) (set-placed 0 l a (omega arith))
     ∙ placed-placed 0 1 (a ∷ []) (b ∷ []) l refl (omega arith)
 
--- the line before its names and its text are written
-abbrev pub blankDelete : List ℕ
-blankDelete = set (set (replicate 80 0) 0 68) 1 69
-
 -- the type, the names and the text, one after the other
-pub delete-line : (names t : List ℕ) → length names ≡ 11 → length t ≤ 67 → placed 13 t (placed 2 names blankDelete) ≡ over (68 ∷ 69 ∷ (names ++ t)) (replicate 80 0)
-delete-line names t n h =
-    let z : 13 ≡ 0 + length (68 ∷ 69 ∷ names) = omega arith in
-    let e : placed 2 names blankDelete ≡ placed 0 (68 ∷ 69 ∷ names) (replicate 80 0) =
-    ap (placed 2 names) (two-placed (replicate 80 0) 68 69 (omega arith)) ∙ placed-placed 0 2 (68 ∷ 69 ∷ []) names (replicate 80 0) refl (omega arith) in
-    ap (placed 13 t) e ∙ placed-placed 0 13 (68 ∷ 69 ∷ names) t (replicate 80 0) z (omega arith)
+pub delete-laid : (names t : List ℕ) → length names ≡ 11 → length t ≤ 67 → placed 13 t (placed 2 names (set (set (replicate 80 0) 0 68) 1 69)) ≡ over (deleteLine names t) (replicate 80 0)
+delete-laid names t n h =
+    part-over (68 ∷ 69 ∷ names) t (replicate 80 0) _ 13 (part-over (68 ∷ 69 ∷ []) names (replicate 80 0) _ 2 (two-placed (replicate 80 0) 68 69 (omega arith)) refl (omega arith)) (omega arith) (omega arith)
 
-pub delete-taken : (names t line : List ℕ) (n : ℕ) → length names ≡ 11 → length t ≤ 67 → n ≡ 13 + length t → line ≡ placed 13 t (placed 2 names blankDelete) → take n line ≡ 68 ∷ 69 ∷ (names ++ t)
-delete-taken names t line n k h e q =
-    ap (take n) (q ∙ delete-line names t k h) ∙ take-at (68 ∷ 69 ∷ (names ++ t)) _ n (omega (arith, length-append names t))
+pub delete-taken : (names t line : List ℕ) (n : ℕ) → length names ≡ 11 → n ≡ 13 + length t → line ≡ over (deleteLine names t) (replicate 80 0) → take n line ≡ deleteLine names t
+delete-taken names t line n k e q = ap (take n) q ∙ take-at (deleteLine names t) _ n (omega (arith, length-append names t))
 
 -- ---- an event, whose columns stand after its type and before its check character
 

@@ -8,16 +8,14 @@ use lib.ListN.{length, take, drop, getD}
 use lib.Dec.{eqb}
 use borrow.Author.Tests.{ne-eqb, eqb-true, eqb-false}
 use Rattle.columns.specs.Answer.{Answer, ok, refusal, isOk}
-use Rattle.columns.specs.Column.{Slot, Rec}
+use Rattle.columns.specs.Column.{Rec}
 use Rattle.columns.specs.Reading.{readColumns}
 use Rattle.columns.proofs.laws.Tests.{and-false}
 use Rattle.formats.specs.Check.{checkCharacter}
-use Rattle.formats.specs.declared.cube.LineRead.{LineRead}
-use Rattle.formats.specs.Cube.{eventColumns, Message, event, delete, link, eventKind, deleteKind, linkKind, asEvent, lowestBarred, deleteParts, readEvent, readDelete, readLine, lineOf, isType}
+use Rattle.formats.specs.Cube.{eventColumns, Message, event, delete, link, eventKind, deleteKind, linkKind, asEvent, lowestBarred, readEvent, readLine, lineRead, isType}
 use Rattle.formats.specs.Judge.{isEventAnswer, isEventLine, isLinkAnswer, isLinkLine}
-use Rattle.formats.proofs.laws.Cube.{text-read, event-columns, event-read, line-event, Came, by-event, by-delete, by-link, came}
-use Rattle.formats.proofs.laws.LinkBack.{link-read}
-use Rattle.formats.proofs.laws.CubeThere.{was-refused}
+use Rattle.formats.proofs.laws.Cube.{event-columns, EventRead, line-event}
+use Rattle.formats.proofs.laws.CubeThere.{was-refused, event-there}
 use Rattle.formats.specs.declared.cube.Read.the-variants as R
 
 as-event-is : (a : Answer Rec) → isEventAnswer (asEvent a) ≡ isOk a
@@ -35,23 +33,18 @@ link-line-is l = refl
 
 module _ (l : List ℕ) where
   -- no other line is an event
-  no-event : (isType 69 32 l ≡ true → (m : Message) → readEvent l ≡ ok m → ⊥) → false ≡ isEventLine l
-  unfolding isEventLine readDelete
+  no-event : (isType 69 32 l ≡ true → (m : Message) → EventRead l m → ⊥) → false ≡ isEventLine l
+  unfolding isEventLine
   no-event f = by-answer (readLine l) refl
     where
-      by-came : (ns : List Slot) (t : List ℕ) → Came l (event ns t) → ⊥
-      by-came ns t (by-event g e) = f g (event ns t) e
-      by-came ns t (by-delete e) = let r = text-read 13 80 13 deleteParts l _ e .rest in let z : _≡_ {A = ℕ} 0 1 = cc in omega arith
-      by-came ns t (by-link g e) = let r = link-read l _ e .is in let z : _≡_ {A = ℕ} 0 1 = cc in omega arith
-
       by-answer : (a : Answer Message) → readLine l ≡ a → false ≡ isEventAnswer a
-      by-answer (ok (event ns t)) e = absurd (by-came ns t (came l (event ns t) e))
+      by-answer (ok (event ns t)) e = let w = event-there l ns t e in absurd (f (w .0) (event ns t) (w .1))
       by-answer (ok (delete names t)) e = refl
       by-answer (ok (link names ty ad tx)) e = refl
       by-answer (refusal n k) e = refl
 
   pub judged-length : (length l ≡ 80 → ⊥) → false ≡ isEventLine l
-  judged-length n = no-event (λ t m e. n (event-read l m e .size))
+  judged-length n = no-event (λ t m e. n (e .read .size))
 
   type-not : isType 69 32 l ≡ false → false ≡ isEventLine l
   type-not e = no-event (λ t m q. let z : _≡_ {A = ℕ} 0 1 = cc in omega arith)
@@ -67,16 +60,16 @@ module _ (l : List ℕ) where
     is-event = line-event l (omega arith) a b
 
     pub judged-barred : (lowestBarred (take 79 l) ≡ 0 → ⊥) → false ≡ isEventLine l
-    judged-barred p = no-event (λ t m e. p (event-read l m e .clear))
+    judged-barred p = no-event (λ t m e. p (e .read .clear))
 
     module _ (p : lowestBarred (take 79 l) ≡ 0) where
       check-not : (getD l 79 0 ≡ checkCharacter (take 79 l) → ⊥) → false ≡ isEventLine l
-      check-not q = no-event (λ t m e. q (event-read l m e .check))
+      check-not q = no-event (λ t m e. q (e .read .check))
 
       columns-are : getD l 79 0 ≡ checkCharacter (take 79 l) → isOk (readColumns eventColumns [] 2 (drop 2 l)) ≡ isEventLine l
-      unfolding isEventLine
+      unfolding isEventLine readEvent
       columns-are q =
-          sym (ap isEventAnswer (is-event ∙ event-columns l h p q) ∙ as-event-is (readColumns eventColumns [] 2 (drop 2 l)))
+          sym (ap isEventAnswer (is-event ∙ ap asEvent (event-columns l h p q)) ∙ as-event-is (readColumns eventColumns [] 2 (drop 2 l)))
 
       by-check : (t : Bool) → eqb (getD l 79 0) (checkCharacter (take 79 l)) ≡ t → false ≡ isOk (readColumns eventColumns [] 2 (drop 2 l)) → false ≡ isEventLine l
       by-check true e q = q ∙ columns-are (eqb-true _ _ e)
@@ -91,16 +84,16 @@ module _ (l : List ℕ) where
 
 -- ---- a link, by the outcome of the line reader
 
-module _ (l : List ℕ) (r : LineRead) (e : r ≡ lineOf (readLine l)) where
-  pub judged-link : (k t d x : ℕ) → r .read ≡ R.There k t d x → eqb k linkKind ≡ isLinkLine l
+module _ (l : List ℕ) where
+  pub judged-link : (k t d x : ℕ) → lineRead (readLine l) ≡ R.There k t d x → eqb k linkKind ≡ isLinkLine l
   unfolding isLinkLine
-  judged-link k t d x q = by-answer (readLine l) (sym (ap (λ (u : LineRead). u .read) e) ∙ q)
+  judged-link k t d x = by-answer (readLine l)
     where
-      by-answer : (a : Answer Message) → lineOf a .read ≡ R.There k t d x → eqb k linkKind ≡ isLinkAnswer a
+      by-answer : (a : Answer Message) → lineRead a ≡ R.There k t d x → eqb k linkKind ≡ isLinkAnswer a
       by-answer (ok (event ns s)) p = let z : k ≡ eventKind = cc in rw z
       by-answer (ok (delete names s)) p = let z : k ≡ deleteKind = cc in rw z
       by-answer (ok (link names ty ad tx)) p = let z : k ≡ linkKind = cc in rw z
       by-answer (refusal n j) p = let z : _≡_ {A = ℕ} 0 1 = cc in let y : ⊥ = omega arith in absurd y
 
-  pub judged-no-link : (n k : ℕ) → r .read ≡ R.Refused n k → false ≡ isLinkLine l
-  judged-no-link n k q = sym (link-line-is l ∙ ap isLinkAnswer (was-refused (readLine l) r n k e q))
+  pub judged-no-link : (n k : ℕ) → lineRead (readLine l) ≡ R.Refused n k → false ≡ isLinkLine l
+  judged-no-link n k q = sym (link-line-is l ∙ ap isLinkAnswer (was-refused (readLine l) n k q))

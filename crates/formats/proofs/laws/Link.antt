@@ -139,9 +139,17 @@ module _ (l : List ℕ) where
   unfolding typeOf
   type-word = refl
 
-  pub address-word : word (drop (16 + length (typeOf l)) l) ≡ addressOf l
+  address-word : word (drop (16 + length (typeOf l)) l) ≡ addressOf l
   unfolding addressOf
   address-word = refl
+
+  pub type-taken : take (length (typeOf l)) (drop 15 l) ≡ typeOf l
+  unfolding typeOf
+  type-taken = upto-take 32 (drop 15 l)
+
+  pub address-taken : take (length (addressOf l)) (drop (16 + length (typeOf l)) l) ≡ addressOf l
+  unfolding addressOf
+  address-taken = upto-take 32 (drop (16 + length (typeOf l)) l)
 
   pub text-word : drop (17 + length (typeOf l) + length (addressOf l)) l ≡ textOf l
   unfolding textOf
@@ -170,24 +178,20 @@ module _ (l : List ℕ) where
     type-end = p ∙ ap (λ (s : List ℕ). 15 + length s) type-word
 
     pub type-part : take (e - 15) (drop 15 l) ≡ typeOf l
-    unfolding endFrom
-    type-part =
-        let z : e - 15 ≡ length (word (drop 15 l)) = omega arith in
-        rw z (upto-take 32 (drop 15 l) ∙ type-word)
+    type-part = let z : e - 15 ≡ length (typeOf l) = omega (arith, type-end) in rw z type-taken
 
     module _ (s : ℕ) (q : s ≡ endFrom 32 l (e + 1)) where
-      from-blank : word (drop (e + 1) l) ≡ addressOf l
-      from-blank = let z : e + 1 ≡ 16 + length (typeOf l) = omega (arith, type-end) in rw z address-word
-
       pub address-end : s ≡ 16 + length (typeOf l) + length (addressOf l)
       unfolding endFrom
-      address-end = omega (arith, q, ap length from-blank, type-end)
+      address-end =
+          let z : e + 1 ≡ 16 + length (typeOf l) = omega (arith, type-end) in
+          q ∙ rw (z, address-word)
 
       pub address-part : take (s - (e + 1)) (drop (e + 1) l) ≡ addressOf l
-      unfolding endFrom
       address-part =
-          let z : s - (e + 1) ≡ length (word (drop (e + 1) l)) = omega arith in
-          rw z (upto-take 32 (drop (e + 1) l) ∙ from-blank)
+          let z : e + 1 ≡ 16 + length (typeOf l) = omega (arith, type-end) in
+          let y : s - (e + 1) ≡ length (addressOf l) = omega (arith, type-end, address-end) in
+          rw (y, z) address-taken
 
       pub text-part : take (length l - (s + 1)) (drop (s + 1) l) ≡ textOf l
       text-part =

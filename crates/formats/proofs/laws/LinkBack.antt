@@ -12,10 +12,11 @@ use Rattle.columns.specs.Answer.{pick, ok, refusal, barredByte, badForm, tooSho
 use Rattle.columns.proofs.laws.Answers.{passed, held, differs-same}
 use Rattle.columns.proofs.laws.Tests.{both-true}
 use Rattle.formats.specs.Link.{word, typeOf, addressOf, textOf, formed}
-use Rattle.formats.specs.Cube.{Message, link, linkLine, linkBarred, linkParts, readLink, readLine, putLink, writeMessage}
+use Rattle.formats.specs.Cube.{Message, link, linkLine, linkBarred, linkParts, readLink, readLine, writeMessage}
 use Rattle.formats.proofs.laws.Link.{Formed, formed-of, text-length, word-split, word-blank}
 use Rattle.formats.proofs.laws.Cube.{text-read, text-clear, line-link}
-use Rattle.formats.proofs.laws.LinkLine.{parts-read, put-link, link-size}
+use Rattle.formats.proofs.laws.LinkLine.{parts-read, link-size}
+use Rattle.formats.proofs.laws.CubeWriting.{put-text, TextPut, text-put}
 
 -- ---- what a line that is read says
 
@@ -77,37 +78,9 @@ module _ (l : List ℕ) where
 
     -- what was read is written as it was
     pub link-accepted : getD l 0 0 ≡ 76 → getD l 1 0 ≡ 73 → (room : ℕ) → length l ≤ room → writeMessage m room ≡ ok l
+    unfolding writeMessage
     link-accepted a b room h =
-        let n : length (take 12 (drop 2 l)) ≡ 12 = length-take-le 12 (drop 2 l) (omega (arith, length-drop 2 l, w .long)) in
-        let e = link-whole a b in
-        let z : 17 + length (typeOf l) + length (addressOf l) + length (textOf l) ≡ length l = sym (link-size (take 12 (drop 2 l)) (typeOf l) (addressOf l) (textOf l) n) ∙ ap length e in
-        subst (λ (x : Message). writeMessage x room ≡ ok l) (w .is)
-        (put-link (take 12 (drop 2 l)) (typeOf l) (addressOf l) (textOf l) n room (omega (arith, w .long)) (omega (arith, w .short)) (omega arith) (ap linkBarred e ∙ w .clear) (w .parts) ∙ ap ok e)
-
--- ---- what a line that is written says
-
-pub record PutLink (l : List ℕ) (f : Bool) (room : ℕ) (ys : List ℕ) : Type 0 where
-  pub long : 20 ≤ length l
-  pub short : length l ≤ 255
-  pub clear : linkBarred l ≡ 0
-  pub parts : f ≡ true
-  pub is : l ≡ ys
-
-pub link-put : (l : List ℕ) (f : Bool) (room : ℕ) (ys : List ℕ) → putLink l f room ≡ ok ys → PutLink l f room ys
-unfolding putLink
-link-put l f room ys e =
-    let p = passed (ltb (length l) 20) wrongLength 0 (unless (ltb 255 (length l)) wrongLength 0 (unless (ltb room (length l)) tooShort 0 (unless (differs (linkBarred l) 0) barredByte (linkBarred l) (pick f (ok l) (refusal badForm 15))))) ys e in
-    let q = passed (ltb 255 (length l)) wrongLength 0 (unless (ltb room (length l)) tooShort 0 (unless (differs (linkBarred l) 0) barredByte (linkBarred l) (pick f (ok l) (refusal badForm 15)))) ys (p .1) in
-    let r = passed (ltb room (length l)) tooShort 0 (unless (differs (linkBarred l) 0) barredByte (linkBarred l) (pick f (ok l) (refusal badForm 15))) ys (q .1) in
-    let s = passed (differs (linkBarred l) 0) barredByte (linkBarred l) (pick f (ok l) (refusal badForm 15)) ys (r .1) in
-    let t = held f badForm 15 (ok l) ys (s .1) in
-    record {
-      long = ltb-false (length l) 20 (p .0);
-      short = ltb-false 255 (length l) (q .0);
-      clear = differs-same (linkBarred l) 0 (s .0);
-      parts = t .0;
-      is = cc (t .1);
-    }
+        subst (λ (x : Message). writeMessage x room ≡ ok l) (w .is) (rw (link-whole a b) (put-text 20 255 14 l (formed (typeOf l) (addressOf l) (textOf l)) room (w .long) (w .short) h (w .clear) (w .parts)))
 
 -- ---- the parts of a line that is made of parts
 
@@ -145,9 +118,9 @@ module _ (names ty ad tx : List ℕ) (n : length names ≡ 12) (f : Formed ty ad
       ∙ rw (type-back, address-back, text-back, take-at names (32 ∷ ty ++ (32 ∷ ad ++ (32 ∷ tx))) 12 n)
 
 module _ (names ty ad tx ys : List ℕ) (room : ℕ) (n : length names ≡ 12) (e : writeMessage (link names ty ad tx) room ≡ ok ys) where
-  written-is : PutLink (linkLine names ty ad tx) (formed ty ad tx) room ys
+  written-is : TextPut 20 255 14 (linkLine names ty ad tx) (formed ty ad tx) room ys
   unfolding writeMessage
-  written-is = link-put (linkLine names ty ad tx) (formed ty ad tx) room ys e
+  written-is = text-put 20 255 14 (linkLine names ty ad tx) (formed ty ad tx) room ys e
 
   pub link-back : readLine ys ≡ ok (link names ty ad tx)
   unfolding readLink

@@ -6,23 +6,21 @@ use Prim.Native.Nat.{ℕ, _+_, _-_, _≤_, min}
 use mathlib.Core.Logic.{inl, inr}
 use native.Mathlib.Omega.{arith}
 use lib.ListN.{length, take, drop, getD, set, replicate, length-append}
-use lib.IntN.{pos}
 use lib.Dec.{eqb, ltb}
 use lib.Seq.{take-at}
-use borrow.Author.Tests.{eq-eqb, le-ltb, lt-ltb}
+use borrow.Author.Tests.{eq-eqb, ne-eqb, le-ltb, lt-ltb}
 use Rattle.columns.specs.Answer.{ok, refusal, unless, badForm, wrongLength}
 use Rattle.columns.specs.Writing.{inPlace}
 use Rattle.columns.specs.Table.{over, placed}
 use Rattle.columns.proofs.laws.Tests.{and-false}
 use Rattle.formats.specs.Lines.{endFrom}
 use Rattle.formats.specs.Link.{typeOf, addressOf, textOf, formed}
-use Rattle.formats.specs.Cube.{link, linkKind, linkLine, linkBarred, linkParts, linkWritten, putLink, lineOf, writeMessage}
+use Rattle.formats.specs.Cube.{link, linkLine, linkParts}
 use Rattle.formats.proofs.laws.Link.{address-none, text-none, no-address, no-text, type-end, type-part, address-end, address-part, text-part}
 use Rattle.columns.proofs.laws.Answers.{differs-not}
 use Rattle.formats.proofs.laws.Lines.{lt-or-le}
 use Rattle.formats.proofs.laws.CubeWriting.{two-placed}
 use Rattle.columns.proofs.laws.Places.{part-over, set-over}
-use Rattle.formats.specs.declared.cube.Read.the-variants as R
 
 -- ---- read
 
@@ -30,6 +28,10 @@ module _ (l : List ℕ) where
   pub parts-malformed : formed (typeOf l) (addressOf l) (textOf l) ≡ false → linkParts l ≡ refusal badForm 15
   unfolding linkParts
   parts-malformed e = rw (e, and-false (eqb (getD l 14 0) 32))
+
+  pub parts-no-blank : (getD l 14 0 ≡ 32 → ⊥) → linkParts l ≡ refusal badForm 15
+  unfolding linkParts
+  parts-no-blank n = rw (ne-eqb (getD l 14 0) 32 n)
 
   pub parts-read : getD l 14 0 ≡ 32 → formed (typeOf l) (addressOf l) (textOf l) ≡ true → linkParts l ≡ ok (link (take 12 (drop 2 l)) (typeOf l) (addressOf l) (textOf l))
   unfolding linkParts
@@ -51,47 +53,25 @@ module _ (l : List ℕ) where
       pub parts-formed : {f : Bool} → f ≡ formed (take (e - 15) (drop 15 l)) (take (s - (e + 1)) (drop (e + 1) l)) (take (length l - (s + 1)) (drop (s + 1) l)) → formed (typeOf l) (addressOf l) (textOf l) ≡ f
       parts-formed g = sym (g ∙ rw (type-part l e p, address-part l e p s q, text-part l e p s q))
 
-      pub link-is : (t : List ℕ) → t ≡ over (take 12 (drop 2 l) ++ (take (e - 15) (drop 15 l) ++ (take (s - (e + 1)) (drop (e + 1) l) ++ take (length l - (s + 1)) (drop (s + 1) l)))) (replicate 250 0)
-          → record { read = R.There linkKind (length (take (e - 15) (drop 15 l))) (length (take (s - (e + 1)) (drop (e + 1) l))) (length (take (length l - (s + 1)) (drop (s + 1) l))); flags = replicate 19 0; values = replicate 19 (pos 0); text = t } ≡ lineOf (ok (link (take 12 (drop 2 l)) (typeOf l) (addressOf l) (textOf l)))
-      link-is t f = rw (f, type-part l e p, address-part l e p s q, text-part l e p s q)
-
 -- ---- written
 
 pub link-size : (names ty ad tx : List ℕ) → length names ≡ 12 → length (linkLine names ty ad tx) ≡ 17 + length ty + length ad + length tx
 link-size names ty ad tx n =
     omega (arith, length-append names (32 ∷ ty ++ (32 ∷ ad ++ (32 ∷ tx))), length-append ty (32 ∷ ad ++ (32 ∷ tx)), length-append ad (32 ∷ tx))
 
-module _ (names ty ad tx : List ℕ) (n : length names ≡ 12) (room : ℕ) where
-  abbrev size : ℕ
-  size = 17 + length ty + length ad + length tx
-
-  pub put-link : 20 ≤ 17 + length ty + length ad + length tx → 17 + length ty + length ad + length tx ≤ 255 → 17 + length ty + length ad + length tx ≤ room → linkBarred (linkLine names ty ad tx) ≡ 0 → formed ty ad tx ≡ true → writeMessage (link names ty ad tx) room ≡ ok (linkLine names ty ad tx)
-  unfolding writeMessage putLink
-  put-link h k r b e = rw (link-size names ty ad tx n, le-ltb size 20 h, le-ltb 255 size k, le-ltb room size r, differs-not (linkBarred (linkLine names ty ad tx)) 0 b, e)
-
-  -- by the size that the code counts up to 256
-  pub put-link-by : (m : ℕ) → m ≡ min 256 (length ty + length ad + length tx) → writeMessage (link names ty ad tx) room ≡ unless (ltb (17 + m) 20) wrongLength 0 (unless (ltb 255 (17 + m)) wrongLength 0 (inPlace room (17 + m) (linkWritten (linkLine names ty ad tx) (formed ty ad tx))))
-  unfolding writeMessage putLink
-  put-link-by m e = elim (lt-or-le 255 (length ty + length ad + length tx)) [
-    | inl p ↦
-        let z : m ≡ 256 = omega (arith, e, p) in
-        rw (z, link-size names ty ad tx n, le-ltb size 20 (omega (arith, p)), lt-ltb 255 size (omega (arith, p)))
-    | inr p ↦ let z : 17 + m ≡ size = omega (arith, e, p) in rw (z, link-size names ty ad tx n)
-  ]
-
 -- ---- the bytes of a link, part after part
 
-module _ (names ty ad tx : List ℕ) where
-  pub text-laid : (l : List ℕ) → length names + length ty + length ad + length tx ≤ length l → placed (length names + length ty + length ad) tx (placed (length names + length ty) ad (placed (length names) ty (placed 0 names l))) ≡ over (names ++ (ty ++ (ad ++ tx))) l
-  text-laid l h =
-      let m : length (names ++ ty) ≡ length names + length ty = length-append names ty in
-      let k : length ((names ++ ty) ++ ad) ≡ length names + length ty + length ad = length-append (names ++ ty) ad ∙ omega arith in
-      let z : (((names ++ ty) ++ ad) ++ tx) ≡ names ++ (ty ++ (ad ++ tx)) = simp append-assoc in
-      let a = part-over names ty l (placed 0 names l) (length names) refl refl (omega arith) in
-      let b = part-over (names ++ ty) ad l _ (length names + length ty) a (sym m) (omega arith) in
-      part-over ((names ++ ty) ++ ad) tx l _ (length names + length ty + length ad) b (sym k) (omega arith)
-      ∙ ap (λ (x : List ℕ). over x l) z
+-- three parts after the first n bytes
+pub parts-laid : (xs ty ad tx l : List ℕ) {out : List ℕ} (n i j : ℕ) → out ≡ over xs l → n ≡ length xs → i ≡ n + length ty → j ≡ i + length ad → j + length tx ≤ length l → placed j tx (placed i ad (placed n ty out)) ≡ over (xs ++ (ty ++ (ad ++ tx))) l
+parts-laid xs ty ad tx l n i j e z p q h =
+    let m = length-append xs ty in
+    let k = length-append (xs ++ ty) ad in
+    let a = part-over xs ty l _ n e z (omega arith) in
+    let b = part-over (xs ++ ty) ad l _ i a (omega arith) (omega arith) in
+    let c : ((xs ++ ty) ++ ad) ++ tx ≡ xs ++ (ty ++ (ad ++ tx)) = simp append-assoc in
+    part-over ((xs ++ ty) ++ ad) tx l _ j b (omega arith) (omega arith) ∙ ap (λ (x : List ℕ). over x l) c
 
+module _ (names ty ad tx : List ℕ) where
   module _ (n : length names ≡ 12) (h : 17 + length ty + length ad + length tx ≤ 255) where
     abbrev typeEnd : ℕ
     typeEnd = 15 + length ty

@@ -13,11 +13,11 @@ use Rattle.columns.proofs.laws.Answers.{over-whole}
 use Rattle.formats.specs.Cube.{Message, link, linkKind, readLine, writeMessage}
 use Rattle.columns.specs.Bytes.{sameBytes}
 use Rattle.formats.specs.Record.{replied, Replied}
-use Rattle.formats.specs.CubeRecord.{filled, recordOf, linkIn, messageIn, writeFrom}
+use Rattle.formats.specs.CubeRecord.{filled, recordOf, messageIn, writeFrom}
 use Rattle.columns.proofs.laws.Bytes.{same-is, same-self}
 use Rattle.formats.proofs.laws.LinkBack.{link-back-size}
 use Rattle.formats.proofs.laws.CubeBack.{Sized, line-accepted}
-use Rattle.formats.proofs.laws.CubeRecord.{replied-refused, wrote-replied, replied-as, from-other, from-same, filled-length, parts-length, link-named}
+use Rattle.formats.proofs.laws.CubeRecord.{no-record, record-reply, from-same, record-size, link-named}
 use Rattle.formats.proofs.laws.LinkFields.{link-written}
 use Rattle.formats.specs.declared.Reply.the-variants as P
 
@@ -35,8 +35,8 @@ module _ (r : List ℕ) (n : length r ≡ 268) (k : getD r 0 0 ≡ linkKind) (t 
   abbrev words : List ℕ
   words = take x (drop (16 + t + d) r)
 
-  link-is-in : linkIn r ≡ link linkNames kind address words
-  link-is-in = rw (i, j, p)
+  link-is-in : messageIn r ≡ link linkNames kind address words
+  link-is-in = link-named r k ∙ rw (i, j, p)
 
   -- lengths that run past the bytes are not those of what is named
   past : 268 < 16 + t + d + x → (b : Bool) → sameBytes (recordOf (link linkNames kind address words)) r ≡ b → b ≡ false
@@ -49,11 +49,8 @@ module _ (r : List ℕ) (n : length r ≡ 268) (k : getD r 0 0 ≡ linkKind) (t 
       absurd y
   past h false s = refl
 
-  no-record : sameBytes (recordOf (linkIn r)) r ≡ false → Replied (writeFrom r (length out)) (P.Refused badForm 0) out out
-  no-record s = replied-refused _ out badForm 0 (from-other r (length out) n (linkIn r) (link-named r k) s)
-
   pub link-past : 268 < 16 + t + d + x → Replied (writeFrom r (length out)) (P.Refused badForm 0) out out
-  link-past h = no-record (ap (λ (m : Message). sameBytes (recordOf m) r) link-is-in ∙ past h _ refl)
+  link-past h = no-record r n (link linkNames kind address words) link-is-in out _ refl _ refl (past h _ refl)
 
   module _ (h : 16 + t + d + x ≤ 268) where
     kind-length : length kind ≡ t
@@ -68,36 +65,25 @@ module _ (r : List ℕ) (n : length r ≡ 268) (k : getD r 0 0 ≡ linkKind) (t 
     link-names-length : length linkNames ≡ 12
     link-names-length = length-take-le 12 (drop 4 r) (omega (arith, length-drop 4 r))
 
-    all-parts : take (16 + t + d + x - 4) (drop 4 r) ≡ linkNames ++ (kind ++ (address ++ words))
-    all-parts =
+    link-took : filled (linkKind ∷ t ∷ d ∷ x ∷ take (16 + t + d + x - 4) (drop 4 r)) ≡ recordOf (link linkNames kind address words)
+    link-took =
         let z : 16 + t + d + x - 4 ≡ 12 + (t + (d + x)) = omega arith in
-        rw z
-        (take-add 12 (t + (d + x)) (drop 4 r)
-        ∙ rw (drop-drop 12 4 r, take-add t (d + x) (drop 16 r), drop-drop t 16 r, take-add d x (drop (16 + t) r), drop-drop d (16 + t) r))
+        rw (z, take-add 12 (t + (d + x)) (drop 4 r), drop-drop 12 4 r, take-add t (d + x) (drop 16 r), drop-drop t 16 r, take-add d x (drop (16 + t) r), drop-drop d (16 + t) r, kind-length, address-length, words-length)
 
     module _ (bytes : List ℕ) (b : bytes ≡ filled (linkKind ∷ t ∷ d ∷ x ∷ take (16 + t + d + x - 4) (drop 4 r))) (same : Bool) (s : same ≡ sameBytes bytes r) where
-      link-is-named : sameBytes (recordOf (linkIn r)) r ≡ same
-      link-is-named =
-          let f : filled (linkKind ∷ t ∷ d ∷ x ∷ take (16 + t + d + x - 4) (drop 4 r)) ≡ recordOf (link linkNames kind address words) = rw (all-parts, kind-length, address-length, words-length) in
-          let e : bytes ≡ recordOf (linkIn r) = b ∙ f ∙ ap recordOf (sym link-is-in) in
-          ap (λ (y : List ℕ). sameBytes y r) (sym e) ∙ sym s
-
       pub no-link : same ≡ false → Replied (writeFrom r (length out)) (P.Refused badForm 0) out out
-      no-link q = no-record (link-is-named ∙ q)
+      no-link = no-record r n (link linkNames kind address words) link-is-in out bytes (b ∙ link-took) same s
 
       pub link-reply : same ≡ true → (ns : List ℕ) → ns ≡ over (take 12 (drop 4 r)) (replicate 12 0) → (o : Outcome) (to : List ℕ)
           → Wrote (writeMessage (link ns (take (16 + t - 16) (drop 16 r)) (take (16 + t + d - (16 + t)) (drop (16 + t) r)) (take (16 + t + d + x - (16 + t + d)) (drop (16 + t + d) r))) (length out)) o out to
           → Replied (writeFrom r (length out)) (replied o (16 + t + d + x + 1)) out to
-      link-reply q ns f o to w =
+      link-reply q ns f o to =
           let u : 16 + t - 16 ≡ t = omega arith in
           let v : 16 + t + d - (16 + t) ≡ d = omega arith in
           let z : 16 + t + d + x - (16 + t + d) ≡ x = omega arith in
           let a : ns ≡ linkNames = f ∙ over-whole linkNames (replicate 12 0) link-names-length in
-          let c : writeMessage (link ns (take (16 + t - 16) (drop 16 r)) (take (16 + t + d - (16 + t)) (drop (16 + t) r)) (take (16 + t + d + x - (16 + t + d)) (drop (16 + t + d) r))) (length out) ≡ writeMessage (link linkNames kind address words) (length out) = rw (a, u, v, z) in
-          let e : writeMessage (link linkNames kind address words) (length out) ≡ writeFrom r (length out) = ap (λ (m : Message). writeMessage m (length out)) (sym link-is-in) ∙ sym (from-same r (length out) n (linkIn r) (link-named r k) (link-is-named ∙ q)) in
-          replied-as _ _ _ out to (c ∙ e)
-          (wrote-replied w (16 + t + d + x + 1)
-          (λ ys m. link-back-size linkNames kind address words ys (length out) link-names-length (sym c ∙ m) ∙ omega (arith, kind-length, address-length, words-length)))
+          record-reply r n (link linkNames kind address words) link-is-in out bytes (b ∙ link-took) same s q (rw (a, u, v, z)) (16 + t + d + x + 1)
+          (λ ys m. link-back-size linkNames kind address words ys (length out) link-names-length m ∙ omega (arith, kind-length, address-length, words-length))
 
 -- ---- the record of a line
 
@@ -115,8 +101,7 @@ module _ (names ty ad tx : List ℕ) (s : Sized (link names ty ad tx)) where
   rest = drop (length (linkKind ∷ length ty ∷ length ad ∷ length tx ∷ (names ++ (ty ++ (ad ++ tx))))) (replicate 268 0)
 
   record-length : length bytes ≡ 268
-  record-length =
-      filled-length (linkKind ∷ length ty ∷ length ad ∷ length tx ∷ (names ++ (ty ++ (ad ++ tx)))) (omega (arith, parts-length names ty ad tx, s .0, s .1))
+  record-length = record-size (link names ty ad tx) s
 
   from-names : drop 4 bytes ≡ names ++ (ty ++ (ad ++ (tx ++ rest)))
   from-names = simp append-assoc

@@ -6,13 +6,12 @@ use mathlib.Core.List.{List}
 use native.Mathlib.Omega.{arith}
 use lib.Dec.{eqb}
 use lib.ListN.{length, getD}
-use borrow.Author.Tests.{eq-eqb, eqb-true}
 use Rattle.columns.specs.Answer.{pick, Answer, ok, refusal}
-use Rattle.formats.specs.Cube.{Message, eventKind, linkKind, readLine, lineOf}
-use Rattle.formats.specs.declared.cube.LineRead.{LineRead}
+use Rattle.formats.specs.Cube.{Message, eventKind, deleteKind, linkKind, readLine, lineRead}
+use Rattle.formats.specs.Cube as cube
 use Rattle.formats.specs.declared.cube.Read.the-variants.{There}
 use Rattle.formats.proofs.laws.CubeFields.{delete-version}
-use Rattle.formats.proofs.laws.CubeThere.{was-event, was-delete, was-link}
+use Rattle.formats.proofs.laws.CubeThere.{was-there}
 use Rattle.catalogue.specs.declared.section.Seek.{Seek}
 use Rattle.catalogue.specs.declared.section.Seek.the-variants.{Found, Missing}
 use Rattle.catalogue.specs.declared.decide.Deed.{Deed}
@@ -50,23 +49,27 @@ blank-or-delete : (t : Bool) → pick t blank delete ≡ noticeKind (pick t Blan
 blank-or-delete true = refl
 blank-or-delete false = refl
 
-module _ (l : List ℕ) (r : LineRead) (e : r ≡ lineOf (readLine l)) where
-  -- a record that is there: its kind says whether it is a link, and with the line's version which notice it is
-  pub there-link : (k t d n : ℕ) → r .read ≡ There k t d n → k ≡ linkKind → kind l ≡ link
+-- a record that is there: its kind says whether it is a link, and with the line's version which notice it is
+module _ (l : List ℕ) (k t d n : ℕ) (q : lineRead (readLine l) ≡ There k t d n) where
+  pub there-link : k ≡ linkKind → kind l ≡ link
   unfolding kind
-  there-link k t d n q p = ap kindOf (was-link (readLine l) r k t d n e q p .is)
-
-  pub there-kind : (k t d n : ℕ) → r .read ≡ There k t d n → (k ≡ linkKind → ⊥) → kind l ≡ noticeKind (noticeOf k (getD l 12 0))
-  unfolding kind
-  there-kind k t d n q other = by-test (eqb k eventKind) refl
+  there-link i = let w = was-there (readLine l) k t d n q in by-message (w .message) (w .is) (w .says)
     where
-      by-test : (t : Bool) → eqb k eventKind ≡ t → kindOf (readLine l) ≡ noticeKind (pick t Event (pick (eqb (getD l 12 0) 32) Blank Delete))
-      by-test true p =
-          let w = was-event (readLine l) r k t d n e q (eqb-true k eventKind p) in
-          ap kindOf (w .is)
-      by-test false p =
-          let w = was-delete (readLine l) r k t d n e q (λ (u : k ≡ eventKind). let z : true ≡ false = sym (eq-eqb k eventKind u) ∙ p in let y : _≡_ {A = ℕ} 0 1 = cc in omega arith) other in
-          ap kindOf (w .is) ∙ ap (λ (v : ℕ). pick (eqb v 32) blank delete) (delete-version l (w .names) (w .chars) (w .is)) ∙ blank-or-delete (eqb (getD l 12 0) 32)
+      by-message : (m : Message) → readLine l ≡ ok m → lineRead (ok m) ≡ There k t d n → kindOf (readLine l) ≡ link
+      by-message (cube.event ns s) e p = let z : k ≡ eventKind = cc in absurd (omega arith)
+      by-message (cube.delete names s) e p = let z : k ≡ deleteKind = cc in absurd (omega arith)
+      by-message (cube.link names ty ad tx) e p = ap kindOf e
+
+  pub there-kind : (k ≡ linkKind → ⊥) → kind l ≡ noticeKind (noticeOf k (getD l 12 0))
+  unfolding kind
+  there-kind other = let w = was-there (readLine l) k t d n q in by-message (w .message) (w .is) (w .says)
+    where
+      by-message : (m : Message) → readLine l ≡ ok m → lineRead (ok m) ≡ There k t d n → kindOf (readLine l) ≡ noticeKind (noticeOf k (getD l 12 0))
+      by-message (cube.event ns s) e p = let z : k ≡ eventKind = cc in rw z (ap kindOf e)
+      by-message (cube.delete names s) e p =
+          let z : k ≡ deleteKind = cc in
+          rw z (ap kindOf e ∙ ap (λ (v : ℕ). pick (eqb v 32) blank delete) (delete-version l names s e) ∙ blank-or-delete (eqb (getD l 12 0) 32))
+      by-message (cube.link names ty ad tx) e p = absurd (other (cc))
 
 -- ---- a room in order
 

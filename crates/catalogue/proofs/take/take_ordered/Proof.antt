@@ -3,7 +3,7 @@ use borrow.Author.Needs.{needs}
 use native.Mathlib.Omega.{arith}
 use Rattle.catalogue.proofs.take.take_ordered.Statement.{statement}
 use Rattle.catalogue.proofs.take.take_ordered.Tie as tie
-use mathlib.Core.Path.{_≡_, refl, _∙_, ap}
+use mathlib.Core.Path.{_≡_, refl, sym, _∙_, ap}
 use lib.ListN.{getD}
 use Rattle.catalogue.specs.Line.{kind}
 use Rattle.formats.proofs.laws.CubeThere.{was-refused}
@@ -13,38 +13,35 @@ use Rattle.catalogue.proofs.laws.room.Found.{notice-ok}
 use Rattle.catalogue.proofs.laws.room.Took.{there-link, there-kind, took-refused}
 
 -- what is there and no link is a notice
-is-notice : (c : tie.Else1) → let l = c .before .before .before .before .before .before .before .args .line .now in kind l ≡ noticeKind (noticeOf (c .before .before .read .given .0 .0) (getD l 12 0))
+is-notice : (c : tie.Else1) → let l = c .before .before .before .before .before .before .before .before .before .before .args .line .now in kind l ≡ noticeKind (noticeOf (c .before .before .read .given .0 .0) (getD l 12 0))
 is-notice c =
-    let l = c .before .before .before .before .read-line in
     let g = c .before .before .read .given in
-    there-kind (c .before .before .before .before .before .before .before .args .line .now) (l .result) (l .ensures) (g .0 .0) (g .0 .1 .0) (g .0 .1 .1 .0) (g .0 .1 .1 .1 .0) (g .1) (c .if1 .left)
+    there-kind _ (g .0 .0) (g .0 .1 .0) (g .0 .1 .1 .0) (g .0 .1 .1 .1 .0) (sym (c .before .before .before .before .read-line .ensures .answer) ∙ g .1) (c .if1 .left)
 
 returns : tie.Need-returns
 returns c =
-    let d = c .before .before .before .before .before .before in
+    let d = c .before .before .before .before .before .before .before .before .before in
     let g = c .before .enum-told .given in
-    let l = c .before .before .before .read-line in
-    took-refused (d .pre .0) (d .args .line .now) (was-refused _ (l .result) (g .0 .0) (g .0 .1 .0) (l .ensures) (g .1)) (d .pre .1) _ (c .refused .ensures ∙ ap refusedCall (g .1)) refl
+    took-refused (d .pre .0) (d .args .line .now) (was-refused _ (g .0 .0) (g .0 .1 .0) (sym (c .before .before .before .read-line .ensures .answer) ∙ g .1)) (d .pre .1) _ (c .refused .ensures ∙ ap refusedCall (g .1)) refl
 
 take-link-requires : tie.Need-take-link-requires
 take-link-requires c κs =
-    let d = c .before .before .before .before .before .before .before .before in
-    let l = c .before .before .before .before .before .read-line in
+    let d = c .before .before .before .before .before .before .before .before .before .before .before in
     let g = c .before .before .before .read .given in
-    (d .pre .0, d .pre .1, there-link (d .args .line .now) (l .result) (l .ensures) (g .0 .0) (g .0 .1 .0) (g .0 .1 .1 .0) (g .0 .1 .1 .1 .0) (g .1) (c .before .if1 .taken))
+    (d .pre .0, d .pre .1, there-link (d .args .line .now) (g .0 .0) (g .0 .1 .0) (g .0 .1 .1 .0) (g .0 .1 .1 .1 .0) (sym (c .before .before .before .before .before .read-line .ensures .answer) ∙ g .1) (c .before .if1 .taken))
 
 returns-2 : tie.Need-returns-2
 returns-2 c = c .before .before .take-link .ensures
 
 shared-slice-read-notice-of : tie.Need-shared-slice-read-notice-of
 shared-slice-read-notice-of c =
-    let l = c .before .before .before .before .before .before .before .before .before .args .line .now in
+    let l = c .before .before .before .before .before .before .before .before .before .before .before .before .args .line .now in
     let e = c .before .before in
     omega (arith, whole l (notice-ok l (noticeOf (e .before .before .read .given .0 .0) (getD l 12 0)) (is-notice e)) .long)
 
 take-notice-requires : tie.Need-take-notice-requires
 take-notice-requires c κs =
-    let d = c .before .before .before .before .before .before .before .before .before .before in
+    let d = c .before .before .before .before .before .before .before .before .before .before .before .before .before in
     (d .pre .0, d .pre .1, rw (c .notice-of .ensures) (is-notice (c .before .before .before)))
 
 returns-3 : tie.Need-returns-3

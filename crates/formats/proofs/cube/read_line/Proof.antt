@@ -1,60 +1,47 @@
+use mathlib.Core.Path.{refl, sym, _∙_}
+use borrow.Author.Tests.{le-ltb, lt-ltb}
 use Rattle.formats.specs.Cube.{readLine}
-use borrow.Author.Tests.{le-ltb, lt-ltb, ne-eqb}
+use Rattle.formats.proofs.laws.Cube.{untouched, no-part}
 use borrow.Author.Needs.{needs}
 use Rattle.formats.proofs.cube.read_line.Statement.{statement}
 use Rattle.formats.proofs.cube.read_line.Tie as tie
 
 returns : tie.Need-returns
 unfolding readLine
-returns c = rw (lt-ltb _ 2 (c .before .if1 .taken)) (c .refused .ensures)
+returns c = rw (lt-ltb _ 2 (c .if1 .taken), no-part _ (c .if1 .taken)) (untouched _ _ refl _ _ _)
 
 returns-2 : tie.Need-returns-2
 unfolding readLine
-returns-2 c = rw (le-ltb _ 2 (c .before .before .before .before .before .if1 .left), c .before .before .if2 .taken, c .before .if3 .taken) (c .read-event .ensures)
+returns-2 c =
+    rw (le-ltb _ 2 (c .before .before .before .before .before .before .if1 .left), sym (c .before .before .before .before .before .is-type .ensures) ∙ c .before .before .before .before .if2 .taken) (c .read-event .ensures)
 
 returns-3 : tie.Need-returns-3
 unfolding readLine
-returns-3 c = rw (le-ltb _ 2 (c .before .before .before .before .before .if1 .left), c .before .before .if2 .taken, ne-eqb _ 32 (c .before .if3 .left)) (c .refused2 .ensures)
+returns-3 c =
+    rw (le-ltb _ 2 (c .before .before .before .before .before .if1 .left), sym (c .before .before .before .before .is-type .ensures) ∙ c .before .before .before .if2 .left, sym (c .before .before .is-type2 .ensures) ∙ c .before .if3 .taken) (untouched _ _ (c .read-delete .ensures) _ _ _)
 
 returns-4 : tie.Need-returns-4
 unfolding readLine
-returns-4 c = rw (le-ltb _ 2 (c .before .before .before .before .before .before .if1 .left), c .before .before .if4 .taken, c .before .if5 .taken) (c .read-delete .ensures)
+returns-4 c =
+    rw (le-ltb _ 2 (c .before .before .before .before .before .before .before .if1 .left), sym (c .before .before .before .before .before .before .is-type .ensures) ∙ c .before .before .before .before .before .if2 .left, sym (c .before .before .before .before .is-type2 .ensures) ∙ c .before .before .before .if3 .left, sym (c .before .before .is-type3 .ensures) ∙ c .before .if4 .taken) (untouched _ _ (c .read-link .ensures) _ _ _)
 
 returns-5 : tie.Need-returns-5
 unfolding readLine
-returns-5 c = rw (le-ltb _ 2 (c .before .before .before .before .before .before .if1 .left), c .before .before .if4 .taken, ne-eqb _ 69 (c .before .if5 .left)) (c .refused3 .ensures)
-
-returns-6 : tie.Need-returns-6
-unfolding readLine
-returns-6 c = rw (le-ltb _ 2 (c .before .before .before .before .before .before .before .if1 .left), c .before .before .if6 .taken, c .before .if7 .taken) (c .read-link .ensures)
-
-returns-7 : tie.Need-returns-7
-unfolding readLine
-returns-7 c = rw (le-ltb _ 2 (c .before .before .before .before .before .before .before .if1 .left), c .before .before .if6 .taken, ne-eqb _ 73 (c .before .if7 .left)) (c .refused4 .ensures)
-
-returns-8 : tie.Need-returns-8
-unfolding readLine
-returns-8 c = rw (le-ltb _ 2 (c .before .before .before .before .before .before .if1 .left), ne-eqb _ 69 (c .before .before .before .if2 .left), ne-eqb _ 68 (c .before .before .if4 .left), ne-eqb _ 76 (c .before .if6 .left)) (c .refused5 .ensures)
+returns-5 c =
+    rw (le-ltb _ 2 (c .before .before .before .before .before .before .if1 .left), sym (c .before .before .before .before .before .is-type .ensures) ∙ c .before .before .before .before .if2 .left, sym (c .before .before .before .is-type2 .ensures) ∙ c .before .before .if3 .left, sym (c .before .is-type3 .ensures) ∙ c .if4 .left) (untouched _ _ refl _ _ _)
 
 pub read-line-spec : {M : Type 1} → statement M
 read-line-spec =
     tie.close
     (tie.spec
-    (λ c κs. search needs)
     returns
-    (λ c. search needs)
-    (λ c. search needs)
+    (λ c κs. search needs)
     (λ c κs. search needs)
     returns-2
     (λ c κs. search needs)
+    (λ c κs. search needs)
     returns-3
     (λ c κs. search needs)
+    (λ c κs. search needs)
     returns-4
-    (λ c κs. search needs)
-    returns-5
-    (λ c κs. search needs)
-    returns-6
-    (λ c κs. search needs)
-    returns-7
-    (λ c κs. search needs)
-    returns-8)
+    returns-5)

@@ -1,19 +1,7 @@
-use mathlib.Core.Path.{_≡_, ap, _∙_}
-use mathlib.Core.List.{_∷_}
-use Prim.Native.Nat.{ℕ, _+_, _-_}
-use native.Mathlib.Omega.{arith}
-use lib.ListN.{take}
-use Rattle.formats.specs.Cube.{deleteKind}
-use Rattle.formats.specs.CubeRecord.{filled}
+use Rattle.formats.proofs.laws.CubeRecord.{delete-laid}
 use borrow.Author.Needs.{needs}
 use Rattle.formats.proofs.cube_record.delete_bytes.Statement.{statement}
 use Rattle.formats.proofs.cube_record.delete_bytes.Tie as tie
-
-returns : tie.Need-returns
-returns c =
-    let a = c .before .before .before .before .args in
-    let z : 11 + a .len - 0 ≡ 11 + a .len = omega arith in
-    c .text-bytes .ensures ∙ ap (λ (k : ℕ). filled (deleteKind ∷ a .len ∷ take k (a .chars .now))) z
 
 pub delete-bytes-spec : {M : Type 1} → statement M
 delete-bytes-spec =
@@ -24,6 +12,7 @@ delete-bytes-spec =
     (λ c. search needs)
     (λ c. search needs)
     (λ c. search needs)
+    (λ c κs. search needs)
     (λ c. search needs)
     (λ c κs. search needs)
-    returns)
+    (λ c. delete-laid (c .before .before .before .before .before .before .before .args .line .now) (c .before .before .before .before .before .before .before .pre .0) (c .before .before .before .before .before .before .before .pre .1) _ (c .before .before .before .before .stretch .ensures .0) (c .before .before .before .before .stretch .ensures .1) (c .before .stretch2 .ensures .1)))

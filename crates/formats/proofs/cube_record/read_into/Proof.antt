@@ -1,31 +1,36 @@
-use native.Mathlib.Omega.{arith}
+use mathlib.Core.Path.{sym, _∙_}
 use Rattle.columns.specs.Answer.{tooShort}
-use Rattle.formats.proofs.laws.CubeRecord.{text-size, replied-refused, into-short, link-low, delete-low, read-refused, read-event, read-link, read-delete}
+use Rattle.formats.proofs.laws.CubeRecord.{replied-refused, into-short, read-refused, read-event, link-says, read-link, delete-says, read-delete}
 use borrow.Author.Needs.{needs}
 use Rattle.formats.proofs.cube_record.read_into.Statement.{statement}
 use Rattle.formats.proofs.cube_record.read_into.Tie as tie
 
 returns-2 : tie.Need-returns-2
-returns-2 c = read-event _ _ (c .before .before .before .before .before .before .before .before .before .before .before .before .before .before .before .before .before .before .if1 .left) _ (c .before .before .before .before .before .before .before .before .before .before .before .before .before .before .before .before .before .read-line .ensures) _ _ (c .before .before .copy .ensures) _ _ _ _ (c .before .before .before .before .before .before .before .before .before .before .before .before .read2 .given .1) (c .before .before .before .before .before .before .before .before .before .before .if2 .taken) (c .before .before .before .before .before .event-bytes .ensures)
+returns-2 c =
+    let r = c .before .before .before .before .before .before .before .before .before .before .before .read-line .ensures in
+    read-event _ _ (c .before .before .before .before .before .before .before .before .before .before .before .before .before .before .before .if1 .left) _ _ _ _ (sym (r .answer) ∙ c .before .before .before .before .before .before .before .before .before .kind .given .1) r (c .before .before .before .before .before .before .before .if2 .taken) (c .before .before .put-event .ensures)
 
 link-bytes-requires : tie.Need-link-bytes-requires
 link-bytes-requires c κs =
-    let e = c .before .before .before .before .before .before .before .before .before .read-line .ensures in
-    (link-low _ _ e _ _ _ _ (c .before .before .before .before .read2 .given .1) (c .before .if3 .taken), text-size _ _ e)
+    let w = link-says _ (c .before .before .before .before .before .before .before .before .before .before .before .before .args .out .now) (c .before .before .before .before .before .before .before .before .before .if1 .left) _ _ _ _ (sym (c .before .before .before .before .before .read-line .ensures .answer) ∙ c .before .before .before .kind .given .1) (c .if3 .taken) in
+    (w .0, w .1 .0)
 
 returns-3 : tie.Need-returns-3
-returns-3 c = read-link _ _ (c .before .before .before .before .before .before .before .before .before .before .before .before .before .before .before .before .if1 .left) _ (c .before .before .before .before .before .before .before .before .before .before .before .before .before .before .before .read-line .ensures) _ _ (c .before .before .copy2 .ensures) _ _ _ _ (c .before .before .before .before .before .before .before .before .before .before .read2 .given .1) (c .before .before .before .before .before .before .before .if3 .taken) (c .before .before .before .before .before .link-bytes .ensures)
+returns-3 c =
+    read-link _ _ (c .before .before .before .before .before .before .before .before .before .before .before .before .before .before .before .if1 .left) _ _ _ _ (sym (c .before .before .before .before .before .before .before .before .before .before .before .read-line .ensures .answer) ∙ c .before .before .before .before .before .before .before .before .before .kind .given .1) (c .before .before .before .before .before .before .if3 .taken) (c .before .before .before .before .before .link-bytes .ensures) (c .before .before .copy .ensures)
 
 delete-bytes-requires : tie.Need-delete-bytes-requires
 delete-bytes-requires c κs =
-    let e = c .before .before .before .before .before .before .before .before .before .read-line .ensures in
-    (delete-low _ _ e _ _ _ _ (c .before .before .before .before .read2 .given .1) (c .before .before .if2 .left) (c .before .if3 .left), text-size _ _ e)
+    let w = delete-says _ (c .before .before .before .before .before .before .before .before .before .before .before .before .args .out .now) (c .before .before .before .before .before .before .before .before .before .if1 .left) _ _ _ _ (sym (c .before .before .before .before .before .read-line .ensures .answer) ∙ c .before .before .before .kind .given .1) (c .before .if2 .left) (c .if3 .left) in
+    (w .0, w .1 .0)
 
 returns-4 : tie.Need-returns-4
-returns-4 c = read-refused _ _ (c .before .before .before .before .before .before .before .if1 .left) _ (c .before .before .before .before .before .before .read-line .ensures) _ _ (c .before .read .given .1)
+returns-4 c =
+    read-refused _ _ (c .before .before .before .before .before .before .before .if1 .left) _ _ (sym (c .before .before .before .read-line .ensures .answer) ∙ c .before .number .given .1)
 
 returns-5 : tie.Need-returns-5
-returns-5 c = read-delete _ _ (c .before .before .before .before .before .before .before .before .before .before .before .before .before .before .before .before .if1 .left) _ (c .before .before .before .before .before .before .before .before .before .before .before .before .before .before .before .read-line .ensures) _ _ (c .before .before .copy3 .ensures) _ _ _ _ (c .before .before .before .before .before .before .before .before .before .before .read2 .given .1) (c .before .before .before .before .before .before .before .before .if2 .left) (c .before .before .before .before .before .before .before .if3 .left) (c .before .before .before .before .before .delete-bytes .ensures)
+returns-5 c =
+    read-delete _ _ (c .before .before .before .before .before .before .before .before .before .before .before .before .before .before .before .if1 .left) _ _ _ _ (sym (c .before .before .before .before .before .before .before .before .before .before .before .read-line .ensures .answer) ∙ c .before .before .before .before .before .before .before .before .before .kind .given .1) (c .before .before .before .before .before .before .before .if2 .left) (c .before .before .before .before .before .before .if3 .left) (c .before .before .before .before .before .delete-bytes .ensures) (c .before .before .copy2 .ensures)
 
 pub read-into-spec : {M : Type 1} → statement M
 read-into-spec =
@@ -35,21 +40,14 @@ read-into-spec =
     (λ c κs. search needs)
     (λ c. search needs)
     (λ c. search needs)
-    (λ c. search needs)
-    (λ c. search needs)
-    (λ c. omega (arith, text-size _ _ (c .before .before .before .before .before .before .before .before .before .before .read-line .ensures)))
-    (λ c κs. search needs)
-    (λ c. search needs)
     (λ c κs. search needs)
     (λ c. search needs)
     returns-2
-    (λ c. search needs)
     link-bytes-requires
     (λ c. search needs)
     (λ c κs. search needs)
     (λ c. search needs)
     returns-3
-    (λ c. search needs)
     delete-bytes-requires
     (λ c. search needs)
     (λ c κs. search needs)

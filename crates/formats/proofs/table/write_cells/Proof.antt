@@ -4,15 +4,6 @@ use Rattle.formats.proofs.laws.Format.{line-ready, line-wrote}
 use Rattle.formats.proofs.table.write_cells.Statement.{statement}
 use Rattle.formats.proofs.table.write_cells.Tie as tie
 
-write-row-requires : tie.Need-write-row-requires
-write-row-requires c κs =
-    let p = c .before .before .before .before .before .before .before .before .pre in
-    line-ready _ _ _ (c .before .before .before .before .format-of .ensures) _ _ _ (p .0) (p .1 .0) (p .1 .1) refl
-
-returns : tie.Need-returns
-returns c =
-    line-wrote _ _ _ (c .before .before .before .before .before .before .before .format-of .ensures) _ _ _ _ (c .before .before .write-row .ensures) refl
-
 pub write-cells-spec : {M : Type 1} → statement M
 write-cells-spec =
     tie.close
@@ -21,6 +12,6 @@ write-cells-spec =
     (λ c. search needs)
     (λ c. search needs)
     (λ c. search needs)
-    write-row-requires
+    (λ c κs. let p = c .before .before .before .before .before .before .before .before .pre in line-ready _ _ _ (c .before .before .before .before .format-of .ensures) _ _ _ (p .0) (p .1 .0) (p .1 .1) refl)
     (λ c. search needs)
-    returns)
+    (λ c. line-wrote _ _ _ (c .before .before .before .before .before .before .before .format-of .ensures) _ _ _ _ (c .before .before .write-row .ensures) refl))
