@@ -258,8 +258,9 @@ fn delete_line(names: &[u8], text: &[u8]) -> [u8; 80]
     line
 }
 
-// A delete's record, its names in 11 bytes, as a line over the first bytes of `out`.
-fn put_delete(names: &[u8], text: &[u8], out: &mut [u8]) -> Outcome
+// A delete's record, identifier, source and version and its free text, as a line over the first bytes of `out`. Nothing is
+// changed where it is refused.
+pub fn write_delete(names: &[u8], text: &[u8], out: &mut [u8]) -> Outcome
     requires { ⌜ length (now names) ≡ 11 ⌝ }
     ensures { λ r. ⌜ Wrote (writeMessage (delete (now (names .entry)) (now (text .entry))) (length (now (out .entry)))) r (now (out .entry)) (now (out .exit)) ⌝ }
 {
@@ -270,12 +271,4 @@ fn put_delete(names: &[u8], text: &[u8], out: &mut [u8]) -> Outcome
     let end = 13 + len;
     let line = delete_line(names, text);
     put_text(&line[0..end], 13, 80, 13, true, out)
-}
-
-// A delete's record, identifier, source and version and its free text, as a line over the first bytes of `out`. Nothing is
-// changed where it is refused.
-pub fn write_delete(names: &[u8; 11], text: &[u8], out: &mut [u8]) -> Outcome
-    ensures { λ r. ⌜ Wrote (writeMessage (delete (now (names .entry)) (now (text .entry))) (length (now (out .entry)))) r (now (out .entry)) (now (out .exit)) ⌝ }
-{
-    put_delete(names, text, out)
 }

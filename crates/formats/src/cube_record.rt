@@ -154,9 +154,7 @@ fn write_delete_from(from: &[u8], len: u8, out: &mut [u8]) -> Reply
     let head = [DELETE, len];
     let bytes = text_bytes(&head, &from[2..end]);
     if same(&bytes, from) {
-        let mut names = [0u8; 11];
-        copy(&mut names, &from[2..13]);
-        return reply_of(write_delete(&names, &from[13..end], out), end);
+        return reply_of(write_delete(&from[2..13], &from[13..end], out), end);
     }
     Reply::Refused(columns::FORM, 0)
 }
@@ -175,11 +173,9 @@ fn write_link_from(from: &[u8], kind: u8, address: u8, text: u8, out: &mut [u8])
     let head = [LINK, kind, address, text];
     let bytes = text_bytes(&head, &from[4..end]);
     if same(&bytes, from) {
-        let mut names = [0u8; 12];
-        copy(&mut names, &from[4..16]);
         return reply_of(
             write_link(
-                &names,
+                &from[4..16],
                 &from[16..start],
                 &from[start..rest],
                 &from[rest..end],

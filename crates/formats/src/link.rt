@@ -8,7 +8,6 @@ use columns::Outcome;
 use columns::bytes::copy_at;
 use columns::bytes::same;
 ghost use mathlib.Core.Path.{_≡_};
-ghost use mathlib.Core.List.{_++_};
 ghost use Prim.Native.Nat.{_+_, _≤_, min};
 ghost use lib.ListN.{length, getD, replicate};
 ghost use Rattle.columns.specs.Table.{over, Wrote};
@@ -126,8 +125,9 @@ fn parts_size(kind: &[u8], address: &[u8], text: &[u8]) -> usize
     size
 }
 
-// A link's record, its names in 12 bytes, as a line over the first bytes of `out`.
-fn put_link(names: &[u8], kind: &[u8], address: &[u8], text: &[u8], out: &mut [u8]) -> Outcome
+// A link's record, identifier, source and version, type, address and text, as a line over the first bytes of `out`. Nothing
+// is changed where it is refused.
+pub fn write_link(names: &[u8], kind: &[u8], address: &[u8], text: &[u8], out: &mut [u8]) -> Outcome
     requires { ⌜ length (now names) ≡ 12 ⌝ }
     ensures { λ r. ⌜ Wrote (writeMessage (link (now (names .entry)) (now (kind .entry)) (now (address .entry)) (now (text .entry))) (length (now (out .entry)))) r (now (out .entry)) (now (out .exit)) ⌝ }
 {
@@ -139,20 +139,6 @@ fn put_link(names: &[u8], kind: &[u8], address: &[u8], text: &[u8], out: &mut [u
     let line = link_line(names, kind, address, text);
     let formed = is_formed(kind, address, text);
     put_text(&line[0..end], 20, 255, 14, formed, out)
-}
-
-// A link's record, identifier, source and version, type, address and text, as a line over the first bytes of `out`. Nothing
-// is changed where it is refused.
-pub fn write_link(
-    names: &[u8; 12],
-    kind: &[u8],
-    address: &[u8],
-    text: &[u8],
-    out: &mut [u8],
-) -> Outcome
-    ensures { λ r. ⌜ Wrote (writeMessage (link (now (names .entry)) (now (kind .entry)) (now (address .entry)) (now (text .entry))) (length (now (out .entry)))) r (now (out .entry)) (now (out .exit)) ⌝ }
-{
-    put_link(names, kind, address, text, out)
 }
 
 // Whether a link's text takes it back.

@@ -6,17 +6,17 @@ use Prim.Native.Nat.{ℕ, _+_, _≤_, _-_}
 use native.Mathlib.Omega.{arith}
 use lib.ListN.{length, take, getD, length-append, drop, length-drop, take-append-drop}
 use lib.Dec.{ltb, eqb}
-use borrow.Author.Tests.{ltb-false, eqb-true}
+use borrow.Author.Tests.{eqb-true}
 use lib.Seq.{take-at, drop-at, getD-at, length-take-le, drop-drop, take-add, take-take}
-use Rattle.columns.specs.Answer.{Answer, ok, refusal, barredByte, tooShort, differs, wrongLength}
+use Rattle.columns.specs.Answer.{Answer, ok, refusal, tooShort}
 use Rattle.columns.specs.Bytes.{barred}
 use Rattle.columns.specs.Column.{Slot}
-use Rattle.columns.specs.Writing.{writeColumns, inPlace}
+use Rattle.columns.specs.Writing.{writeColumns}
 use Rattle.formats.specs.Check.{checkCharacter}
 use Rattle.formats.specs.Cube.{eventColumns, event, delete, link, sealed, sealedAnswer, lowestBarred, readLine, asEvent, eventWritten, deleteLine, deleteParts, writeMessage, Message, readEvent, readDelete}
 use Rattle.columns.proofs.laws.Columns.{Line, columns-back, columns-more-bytes}
 use Rattle.columns.proofs.laws.Stretch.{clean-line, barred-split, barred-cons, line-clean}
-use Rattle.columns.proofs.laws.Answers.{passed, differs-same}
+use Rattle.columns.proofs.laws.Answers.{passed}
 use Rattle.columns.proofs.laws.Tests.{both-true}
 use Rattle.formats.proofs.laws.Cube.{line-event, event-columns, event-read, line-delete, delete-read, text-read, Came, by-event, by-delete, by-link, came}
 use Rattle.columns.specs.Reading.{readColumns}

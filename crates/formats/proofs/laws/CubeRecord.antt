@@ -310,11 +310,10 @@ module _ (r : List ℕ) (n : length r ≡ 268) (k : getD r 0 0 ≡ eventKind →
     pub no-delete : same ≡ false → Replied (writeFrom r (length out)) (P.Refused badForm 0) out out
     no-delete = no-record r n (delete names chars) delete-is-in out bytes (b ∙ delete-took) same s
 
-    pub delete-reply : same ≡ true → (ns : List ℕ) → ns ≡ over (take (13 - 2) (drop 2 r)) (replicate 11 0) → (o : Outcome) (to : List ℕ) → Wrote (writeMessage (delete ns (take (13 + len - 13) (drop 13 r))) (length out)) o out to → Replied (writeFrom r (length out)) (replied o (13 + len)) out to
-    delete-reply q ns f o to =
+    pub delete-reply : same ≡ true → (o : Outcome) (to : List ℕ) → Wrote (writeMessage (delete names (take (13 + len - 13) (drop 13 r))) (length out)) o out to → Replied (writeFrom r (length out)) (replied o (13 + len)) out to
+    delete-reply q o to =
         let z : 13 + len - 13 ≡ len = omega arith in
-        let a : ns ≡ names = f ∙ over-whole names (replicate 11 0) names-length in
-        record-reply r n (delete names chars) delete-is-in out bytes (b ∙ delete-took) same s q (rw (a, z)) (13 + len)
+        record-reply r n (delete names chars) delete-is-in out bytes (b ∙ delete-took) same s q (rw z) (13 + len)
         (λ ys p. delete-size names chars ys (length out) names-length p ∙ ap (λ (x : ℕ). 13 + x) chars-length)
 
 pub replied-is : (a : Answer (List ℕ)) (r s : Reply) (from to : List ℕ) → r ≡ s → Replied a s from to → Replied a r from to

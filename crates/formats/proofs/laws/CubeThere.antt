@@ -1,5 +1,5 @@
 -- What a line's outcome and its message say of it: the kind of the record that is there, or the refusal.
-use mathlib.Core.Path.{_≡_, refl, ap, _∙_}
+use mathlib.Core.Path.{_≡_, refl}
 use mathlib.Core.Bool.{true}
 use mathlib.Core.List.{List}
 use Prim.Native.Nat.{ℕ}

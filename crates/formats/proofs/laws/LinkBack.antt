@@ -1,15 +1,15 @@
 -- Every link that is written reads back the same, and every LI line that is read is written as it was.
 use mathlib.Core.Path.{_≡_, refl, sym, ap, _∙_, subst}
-use mathlib.Core.Bool.{Bool, true, _&&_}
+use mathlib.Core.Bool.{true, _&&_}
 use mathlib.Core.List.{List, _∷_, _++_}
 use Prim.Native.Nat.{ℕ, suc, _+_, _≤_, _<_}
 use native.Mathlib.Omega.{arith}
 use lib.ListN.{length, take, drop, getD, length-drop, take-append-drop}
-use lib.Dec.{ltb, eqb}
-use lib.Seq.{length-take-le, take-at, getD-at, drop-drop, drop-cons, drop-append-add}
-use borrow.Author.Tests.{ltb-false, eqb-true}
-use Rattle.columns.specs.Answer.{pick, ok, refusal, barredByte, badForm, tooShort, unless, differs, wrongLength}
-use Rattle.columns.proofs.laws.Answers.{passed, held, differs-same}
+use lib.Dec.{eqb}
+use lib.Seq.{take-at, getD-at, drop-drop, drop-cons, drop-append-add}
+use borrow.Author.Tests.{eqb-true}
+use Rattle.columns.specs.Answer.{ok, badForm}
+use Rattle.columns.proofs.laws.Answers.{held}
 use Rattle.columns.proofs.laws.Tests.{both-true}
 use Rattle.formats.specs.Link.{word, typeOf, addressOf, textOf, formed}
 use Rattle.formats.specs.Cube.{Message, link, linkLine, linkBarred, linkParts, readLink, readLine, writeMessage}

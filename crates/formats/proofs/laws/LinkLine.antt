@@ -2,23 +2,19 @@
 use mathlib.Core.Path.{_≡_, refl, sym, ap, _∙_}
 use mathlib.Core.Bool.{Bool, true, false}
 use mathlib.Core.List.{List, [], _∷_, _++_, append-assoc}
-use Prim.Native.Nat.{ℕ, _+_, _-_, _≤_, min}
-use mathlib.Core.Logic.{inl, inr}
+use Prim.Native.Nat.{ℕ, _+_, _-_, _≤_}
 use native.Mathlib.Omega.{arith}
 use lib.ListN.{length, take, drop, getD, set, replicate, length-append}
-use lib.Dec.{eqb, ltb}
+use lib.Dec.{eqb}
 use lib.Seq.{take-at}
-use borrow.Author.Tests.{eq-eqb, ne-eqb, le-ltb, lt-ltb}
-use Rattle.columns.specs.Answer.{ok, refusal, unless, badForm, wrongLength}
-use Rattle.columns.specs.Writing.{inPlace}
+use borrow.Author.Tests.{eq-eqb, ne-eqb}
+use Rattle.columns.specs.Answer.{ok, refusal, badForm}
 use Rattle.columns.specs.Table.{over, placed}
 use Rattle.columns.proofs.laws.Tests.{and-false}
 use Rattle.formats.specs.Lines.{endFrom}
 use Rattle.formats.specs.Link.{typeOf, addressOf, textOf, formed}
 use Rattle.formats.specs.Cube.{link, linkLine, linkParts}
 use Rattle.formats.proofs.laws.Link.{address-none, text-none, no-address, no-text, type-end, type-part, address-end, address-part, text-part}
-use Rattle.columns.proofs.laws.Answers.{differs-not}
-use Rattle.formats.proofs.laws.Lines.{lt-or-le}
 use Rattle.formats.proofs.laws.CubeWriting.{two-placed}
 use Rattle.columns.proofs.laws.Places.{part-over, set-over}
 

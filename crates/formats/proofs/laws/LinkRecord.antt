@@ -8,9 +8,8 @@ use lib.ListN.{length, take, drop, getD, replicate, length-drop, length-take}
 use lib.Seq.{take-at, drop-at, take-add, drop-drop, length-take-le}
 use Rattle.columns.specs.declared.Outcome.{Outcome}
 use Rattle.columns.specs.Answer.{ok, badForm}
-use Rattle.columns.specs.Table.{over, Wrote}
-use Rattle.columns.proofs.laws.Answers.{over-whole}
-use Rattle.formats.specs.Cube.{Message, link, linkKind, readLine, writeMessage}
+use Rattle.columns.specs.Table.{Wrote}
+use Rattle.formats.specs.Cube.{link, linkKind, readLine, writeMessage}
 use Rattle.columns.specs.Bytes.{sameBytes}
 use Rattle.formats.specs.Record.{replied, Replied}
 use Rattle.formats.specs.CubeRecord.{filled, recordOf, messageIn, writeFrom}
@@ -74,15 +73,14 @@ module _ (r : List ℕ) (n : length r ≡ 268) (k : getD r 0 0 ≡ linkKind) (t 
       pub no-link : same ≡ false → Replied (writeFrom r (length out)) (P.Refused badForm 0) out out
       no-link = no-record r n (link linkNames kind address words) link-is-in out bytes (b ∙ link-took) same s
 
-      pub link-reply : same ≡ true → (ns : List ℕ) → ns ≡ over (take 12 (drop 4 r)) (replicate 12 0) → (o : Outcome) (to : List ℕ)
-          → Wrote (writeMessage (link ns (take (16 + t - 16) (drop 16 r)) (take (16 + t + d - (16 + t)) (drop (16 + t) r)) (take (16 + t + d + x - (16 + t + d)) (drop (16 + t + d) r))) (length out)) o out to
+      pub link-reply : same ≡ true → (o : Outcome) (to : List ℕ)
+          → Wrote (writeMessage (link linkNames (take (16 + t - 16) (drop 16 r)) (take (16 + t + d - (16 + t)) (drop (16 + t) r)) (take (16 + t + d + x - (16 + t + d)) (drop (16 + t + d) r))) (length out)) o out to
           → Replied (writeFrom r (length out)) (replied o (16 + t + d + x + 1)) out to
-      link-reply q ns f o to =
+      link-reply q o to =
           let u : 16 + t - 16 ≡ t = omega arith in
           let v : 16 + t + d - (16 + t) ≡ d = omega arith in
           let z : 16 + t + d + x - (16 + t + d) ≡ x = omega arith in
-          let a : ns ≡ linkNames = f ∙ over-whole linkNames (replicate 12 0) link-names-length in
-          record-reply r n (link linkNames kind address words) link-is-in out bytes (b ∙ link-took) same s q (rw (a, u, v, z)) (16 + t + d + x + 1)
+          record-reply r n (link linkNames kind address words) link-is-in out bytes (b ∙ link-took) same s q (rw (u, v, z)) (16 + t + d + x + 1)
           (λ ys m. link-back-size linkNames kind address words ys (length out) link-names-length m ∙ omega (arith, kind-length, address-length, words-length))
 
 -- ---- the record of a line

@@ -17,7 +17,7 @@ use Rattle.catalogue.specs.declared.section.Seek.the-variants.{Found, Mi
 use Rattle.catalogue.specs.declared.decide.Deed.{Deed}
 use Rattle.catalogue.specs.declared.decide.Deed.the-variants.{Leave, Hold, Note, Wipe, Link}
 use Rattle.catalogue.specs.declared.decide.Notice.{Notice}
-use Rattle.catalogue.specs.declared.decide.Notice.the-variants.{Event, Delete, Blank}
+use Rattle.catalogue.specs.declared.decide.Notice.the-variants.{Delete, Blank}
 use Rattle.catalogue.specs.declared.decide.Findings.{Findings}
 use Rattle.catalogue.specs.declared.take.Receipt.{Receipt}
 use Rattle.catalogue.specs.Answers.{answered}

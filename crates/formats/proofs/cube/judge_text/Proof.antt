@@ -1,5 +1,4 @@
 use mathlib.Core.Path.{sym, ap, _∙_}
-use Prim.Native.Nat.{ℕ}
 use borrow.Author.Tests.{le-ltb, lt-ltb}
 use Rattle.columns.specs.Answer.{barredByte}
 use Rattle.columns.proofs.laws.Answers.{differs-not, differs-is}

@@ -5,9 +5,9 @@ use Rattle.formats.proofs.cube_record.write_delete_from.Tie as tie
 
 returns : tie.Need-returns
 returns c =
-    let p = c .before .before .before .before .before .before .before .before .before .before .before .before .before .before .before .before .before .before .before .pre in
+    let p = c .before .before .before .before .before .before .before .before .before .before .before .before .before .before .before .pre in
     replied-is _ _ _ _ _ (c .reply-of .ensures)
-    (delete-reply _ (p .0) (p .1 .0) (p .1 .1 .0) _ (p .1 .1 .1) (search needs) _ _ (c .before .before .before .before .before .before .before .before .before .before .before .before .before .before .text-bytes .ensures) _ (c .before .before .before .before .before .before .before .before .before .before .before .before .same .ensures) (c .before .before .before .before .before .before .before .before .before .before .before .if1 .taken) _ (c .before .before .before .before .before .before .before .before .copy .ensures) _ _ (c .before .before .before .write-delete .ensures))
+    (delete-reply _ (p .0) (p .1 .0) (p .1 .1 .0) _ (p .1 .1 .1) (search needs) _ _ (c .before .before .before .before .before .before .before .before .before .before .text-bytes .ensures) _ (c .before .before .before .before .before .before .before .before .same .ensures) (c .before .before .before .before .before .before .before .if1 .taken) _ _ (c .before .before .before .write-delete .ensures))
 
 returns-2 : tie.Need-returns-2
 returns-2 c =
@@ -29,8 +29,6 @@ write-delete-from-spec =
     (λ c. search needs)
     (λ c. search needs)
     (λ c. search needs)
-    (λ c. search needs)
-    (λ c κs. search needs)
     (λ c. search needs)
     (λ c. search needs)
     (λ c. search needs)

@@ -1,4 +1,4 @@
-use mathlib.Core.Path.{ap, _∙_}
+use mathlib.Core.Path.{ap}
 use mathlib.Core.Bool.{true}
 use mathlib.Core.List.{List}
 use Prim.Native.Nat.{ℕ, _+_, _-_}
@@ -9,8 +9,8 @@ use Rattle.columns.proofs.laws.Answers.{wrote-refused, wrote-as}
 use Rattle.formats.specs.Cube.{putText, writeMessage}
 use Rattle.formats.proofs.laws.CubeWriting.{put-long, delete-taken}
 use borrow.Author.Needs.{needs}
-use Rattle.formats.proofs.cube.put_delete.Statement.{statement}
-use Rattle.formats.proofs.cube.put_delete.Tie as tie
+use Rattle.formats.proofs.cube.write_delete.Statement.{statement}
+use Rattle.formats.proofs.cube.write_delete.Tie as tie
 
 returns : tie.Need-returns
 unfolding writeMessage
@@ -24,8 +24,8 @@ returns-2 c =
     let a = c .before .before .before .before .before .before .before .before .before .before .before .args in
     wrote-as _ _ _ _ _ (ap (λ (x : List ℕ). putText 13 80 13 x true (length (a .out .now))) (delete-taken (a .names .now) (a .text .now) _ (13 + length (a .text .now) - 0) (c .before .before .before .before .before .before .before .before .before .before .before .pre) (omega arith) (c .before .before .before .before .before .before .delete-line .ensures))) (c .before .before .put-text .ensures)
 
-pub put-delete-spec : {M : Type 1} → statement M
-put-delete-spec =
+pub write-delete-spec : {M : Type 1} → statement M
+write-delete-spec =
     tie.close
     (tie.spec
     returns
