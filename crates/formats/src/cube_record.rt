@@ -19,6 +19,7 @@ ghost use mathlib.Core.Path.{_≡_};
 ghost use mathlib.Core.List.{_++_};
 ghost use Prim.Native.Nat.{_+_, _≤_};
 ghost use lib.ListN.{length, take, drop, getD};
+ghost use Rattle.columns.specs.Bytes.{sameBytes};
 ghost use Rattle.columns.specs.Table.{over};
 ghost use Rattle.formats.specs.Cube.{eventKind, linkKind, deleteOf, link};
 ghost use Rattle.formats.specs.Record.{packed, Replied, replied};
@@ -27,25 +28,25 @@ ghost use Rattle.formats.specs.CubeRecord.{filled, recordOf, readInto, w
 // The bytes of a record of any kind.
 pub const RECORD: usize = 268;
 
-fn event_bytes(flags: &[u8; 19], values: &[i64; 19], text: &[u8]) -> [u8; 268]
-    requires { ⌜ length (now text) ≡ 13 ⌝ }
-    ensures { λ r. ⌜ r ≡ filled (packed eventKind (now (flags .entry)) (now (values .entry)) (now (text .entry))) ⌝ }
+// Whether bytes are those of an event's record.
+fn is_packed(flags: &[u8; 19], values: &[i64; 19], text: &[u8; 13], from: &[u8]) -> bool
+    ensures { λ r. ⌜ r ≡ sameBytes (filled (packed eventKind (now (flags .entry)) (now (values .entry)) (now (text .entry)))) (now (from .entry)) ⌝ }
 {
     let mut bytes = [0u8; 268];
     pack(&mut bytes, EVENT, flags, values, text);
-    bytes
+    same(&bytes, from)
 }
 
-// The kind and the lengths of a delete or a link, then its names and texts.
-fn text_bytes(head: &[u8], chars: &[u8]) -> [u8; 268]
+// Whether bytes are those of a delete's or a link's record: its kind and its lengths, then its names and texts.
+fn is_laid(head: &[u8], chars: &[u8], from: &[u8]) -> bool
     requires { ⌜ length (now head) + length (now chars) ≤ 268 ⌝ }
-    ensures { λ r. ⌜ r ≡ filled (now (head .entry) ++ now (chars .entry)) ⌝ }
+    ensures { λ r. ⌜ r ≡ sameBytes (filled (now (head .entry) ++ now (chars .entry))) (now (from .entry)) ⌝ }
 {
     let mut bytes = [0u8; 268];
     let at = head.len();
     copy_at(&mut bytes, 0, head);
     copy_at(&mut bytes, at, chars);
-    bytes
+    same(&bytes, from)
 }
 
 // A delete's record, from a line of 13 to 80 bytes.
@@ -68,17 +69,20 @@ fn link_bytes(line: &[u8], kind: usize, address: usize) -> [u8; 268]
     requires { ⌜ (17 + kind + address ≤ length (now line)) × (length (now line) ≤ 255) ⌝ }
     ensures { λ r. ⌜ r ≡ recordOf (link (take 12 (drop 2 (now (line .entry)))) (take kind (drop 15 (now (line .entry)))) (take address (drop (16 + kind) (now (line .entry)))) (drop (17 + kind + address) (now (line .entry)))) ⌝ }
 {
-    let len = line.len();
-    let start = 16 + kind;
-    let rest = start + address + 1;
-    let size = len - rest;
+    let end = 16 + kind;
+    let rest = end + address;
+    let size = line.len() - (rest + 1);
     let head = [LINK, kind as u8, address as u8, size as u8];
     let mut bytes = [0u8; 268];
     copy_at(&mut bytes, 0, &head);
-    copy_at(&mut bytes, 4, &line[2..14]);
-    copy_at(&mut bytes, 16, &line[15..15 + kind]);
-    copy_at(&mut bytes, start, &line[start..start + address]);
-    copy_at(&mut bytes, start + address, &line[rest..len]);
+    let cursor = Cursor { at: 2 };
+    cursor.stretch(line, 12, &mut bytes, 4);
+    let cursor = Cursor { at: 15 };
+    cursor.stretch(line, kind, &mut bytes, 16);
+    let cursor = Cursor { at: end };
+    cursor.stretch(line, address, &mut bytes, end);
+    let cursor = Cursor { at: rest + 1 };
+    cursor.stretch(line, size, &mut bytes, rest);
     bytes
 }
 
@@ -138,8 +142,7 @@ fn write_event_from(from: &[u8], out: &mut [u8]) -> Reply
     let mut text = [0u8; 13];
     get_numbers(&from[1..268], &from[20..268], &mut flags, &mut values);
     copy(&mut text, &from[172..185]);
-    let bytes = event_bytes(&flags, &values, &text);
-    if same(&bytes, from) {
+    if is_packed(&flags, &values, &text, from) {
         return reply_of(write_event(&flags, &values, &text, out), 80);
     }
     Reply::Refused(columns::FORM, 0)
@@ -152,8 +155,7 @@ fn write_delete_from(from: &[u8], len: u8, out: &mut [u8]) -> Reply
 {
     let end = 13 + (len as usize);
     let head = [DELETE, len];
-    let bytes = text_bytes(&head, &from[2..end]);
-    if same(&bytes, from) {
+    if is_laid(&head, &from[2..end], from) {
         return reply_of(write_delete(&from[2..13], &from[13..end], out), end);
     }
     Reply::Refused(columns::FORM, 0)
@@ -171,8 +173,7 @@ fn write_link_from(from: &[u8], kind: u8, address: u8, text: u8, out: &mut [u8])
         return Reply::Refused(columns::FORM, 0);
     }
     let head = [LINK, kind, address, text];
-    let bytes = text_bytes(&head, &from[4..end]);
-    if same(&bytes, from) {
+    if is_laid(&head, &from[4..end], from) {
         return reply_of(
             write_link(
                 &from[4..16],

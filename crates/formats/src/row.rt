@@ -11,8 +11,9 @@ use columns::bytes::copy;
 use columns::bytes::first_barred;
 use columns::bytes::same;
 ghost use mathlib.Core.Path.{_≡_};
-ghost use lib.ListN.{length, replicate};
+ghost use lib.ListN.{length};
 ghost use Rattle.columns.specs.Column.{allSlots, allTexts};
+ghost use Rattle.columns.specs.Bytes.{sameBytes};
 ghost use Rattle.columns.specs.Row.{rowSize};
 ghost use Rattle.columns.specs.Table.{over, outcomeOf, ReadPart};
 ghost use Rattle.formats.specs.Record.{packed, Replied};
@@ -55,15 +56,16 @@ pub fn judge_row(kind: u8, line: &[u8]) -> Outcome
     read_row(kind, line, &mut flags, &mut values, &mut text)
 }
 
-// The bytes of a record of the format of a kind, and zeros after them.
-fn row_bytes(kind: u8, flags: &[u8], values: &[i64], text: &[u8]) -> [u8; 512]
-    requires { ⌜ (length (now flags) ≡ allSlots (formatOf kind .columns)) × ((length (now values) ≡ allSlots (formatOf kind .columns)) × (length (now text) ≡ allTexts (formatOf kind .columns))) ⌝ }
-    ensures { λ r. ⌜ r ≡ over (packed (formatOf kind .kind) (now (flags .entry)) (now (values .entry)) (now (text .entry))) (replicate 512 0) ⌝ }
+// Whether bytes are those of a record of the format of a kind.
+fn is_row(kind: u8, flags: &[u8], values: &[i64], text: &[u8], from: &[u8]) -> bool
+    requires { ⌜ (length (now flags) ≡ allSlots (formatOf kind .columns)) × ((length (now values) ≡ allSlots (formatOf kind .columns)) × ((length (now text) ≡ allTexts (formatOf kind .columns)) × (length (now from) ≡ rowSize (formatOf kind .columns)))) ⌝ }
+    ensures { λ r. ⌜ r ≡ sameBytes (packed (formatOf kind .kind) (now (flags .entry)) (now (values .entry)) (now (text .entry))) (now (from .entry)) ⌝ }
 {
     let f = format_of(kind);
+    let size = from.len();
     let mut bytes = [0u8; 512];
     pack(&mut bytes, f.kind, flags, values, text);
-    bytes
+    same(&bytes[0..size], from)
 }
 
 // A line read into a record of the format of a kind, over the first bytes of `out`. Nothing is changed where it is refused.
@@ -109,8 +111,7 @@ fn write_named(
     let chars = numbers + 8 * n;
     get_numbers(&from[1..size], &from[numbers..size], flags, values);
     copy(text, &from[chars..size]);
-    let bytes = row_bytes(kind, flags, values, text);
-    if same(&bytes[0..size], from) {
+    if is_row(kind, flags, values, text, from) {
         return reply_of(write_cells(kind, flags, values, text, out), width);
     }
     Reply::Refused(columns::FORM, 0)

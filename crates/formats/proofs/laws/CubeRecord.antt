@@ -182,16 +182,12 @@ delete-laid l h k {a} {b} at z p q =
     ∙ rw y (part-over (head ++ take 11 (drop 2 l)) (drop 13 l) (replicate 268 0) a 13 c (omega arith) (omega (arith, length-drop 13 l)))
     ∙ ap (λ (x : ℕ). filled (deleteKind ∷ x ∷ (take 11 (drop 2 l) ++ drop 13 l))) (sym (length-drop 13 l))
 
--- a part of as many bytes
-cut : (n m : ℕ) (s : List ℕ) → take (n + m - n) s ≡ take m s
-cut n m s = let z : n + m - n ≡ m = omega arith in rw z
-
 pub link-laid : (l : List ℕ) (t d : ℕ) → 17 + t + d ≤ length l → length l ≤ 255 → {a b c e f : List ℕ}
     → a ≡ placed 0 (linkKind ∷ t ∷ d ∷ (length l - (16 + t + d + 1)) ∷ []) (replicate 268 0)
-    → b ≡ placed 4 (take 12 (drop 2 l)) a
-    → c ≡ placed 16 (take (15 + t - 15) (drop 15 l)) b
-    → e ≡ placed (16 + t) (take (16 + t + d - (16 + t)) (drop (16 + t) l)) c
-    → f ≡ placed (16 + t + d) (take (length l - (16 + t + d + 1)) (drop (16 + t + d + 1) l)) e → f ≡ recordOf (link (take 12 (drop 2 l)) (take t (drop 15 l)) (take d (drop (16 + t) l)) (drop (17 + t + d) l))
+    → b ≡ placed 4 (slice 2 (2 + 12) l) a
+    → c ≡ placed 16 (slice 15 (15 + t) l) b
+    → e ≡ placed (16 + t) (slice (16 + t) (16 + t + d) l) c
+    → f ≡ placed (16 + t + d) (slice (16 + t + d + 1) (16 + t + d + 1 + (length l - (16 + t + d + 1))) l) e → f ≡ recordOf (link (take 12 (drop 2 l)) (take t (drop 15 l)) (take d (drop (16 + t) l)) (drop (17 + t + d) l))
 link-laid l t d h k {a} {b} {c} {e} {f} p q r s u =
     let i : 16 + t + d + 1 ≡ 17 + t + d = omega arith in
     let head = linkKind ∷ t ∷ d ∷ (length l - (16 + t + d + 1)) ∷ [] in
@@ -200,9 +196,9 @@ link-laid l t d h k {a} {b} {c} {e} {f} p q r s u =
     let y : length (take d (drop (16 + t) l)) ≡ d = length-take-le d (drop (16 + t) l) (omega (arith, length-drop (16 + t) l)) in
     let z = length-drop (16 + t + d + 1) l in
     let v = part-over head (take 12 (drop 2 l)) (replicate 268 0) a 4 p refl (omega arith) in
-    let w : f ≡ placed (16 + t + d) (drop (16 + t + d + 1) l) (placed (16 + t) (take d (drop (16 + t) l)) (placed 16 (take t (drop 15 l)) b)) = u ∙ rw (s, r, cut 15 t (drop 15 l), cut (16 + t) d (drop (16 + t) l), take-all (length l - (16 + t + d + 1)) (drop (16 + t + d + 1) l) (omega arith)) in
+    let w : f ≡ placed (16 + t + d) (drop (16 + t + d + 1) l) (placed (16 + t) (take d (drop (16 + t) l)) (placed 16 (take t (drop 15 l)) b)) = u ∙ rw (s, r, slice-is l 15 t, slice-is l (16 + t) d, slice-is l (16 + t + d + 1) (length l - (16 + t + d + 1)), take-all (length l - (16 + t + d + 1)) (drop (16 + t + d + 1) l) (omega arith)) in
     w
-    ∙ parts-laid (head ++ take 12 (drop 2 l)) (take t (drop 15 l)) (take d (drop (16 + t) l)) (drop (16 + t + d + 1) l) (replicate 268 0) 16 (16 + t) (16 + t + d) (q ∙ v) (omega arith) (omega arith) (omega arith) (omega arith)
+    ∙ parts-laid (head ++ take 12 (drop 2 l)) (take t (drop 15 l)) (take d (drop (16 + t) l)) (drop (16 + t + d + 1) l) (replicate 268 0) 16 (16 + t) (16 + t + d) (q ∙ ap (λ (o : List ℕ). placed 4 o a) (slice-is l 2 12) ∙ v) (omega arith) (omega arith) (omega arith) (omega arith)
     ∙ rw (x, y, i, length-drop (17 + t + d) l)
 
 -- ---- a line written from a record
@@ -243,17 +239,14 @@ link-named r e = rw e
 pub delete-named : (r : List ℕ) → (getD r 0 0 ≡ eventKind → ⊥) → (getD r 0 0 ≡ linkKind → ⊥) → messageIn r ≡ deleteIn r
 delete-named r n m = rw (ne-eqb (getD r 0 0) eventKind n, ne-eqb (getD r 0 0) linkKind m)
 
--- the bytes that the code made of the message that a record names
-module _ (r : List ℕ) (n : length r ≡ 268) (m : Message) (e : messageIn r ≡ m) (out bytes : List ℕ) (b : bytes ≡ recordOf m) (same : Bool) (s : same ≡ sameBytes bytes r) where
-  named : sameBytes (recordOf m) r ≡ same
-  named = ap (λ (x : List ℕ). sameBytes x r) (sym b) ∙ sym s
-
+-- by whether bytes are those of the message that they name
+module _ (r : List ℕ) (n : length r ≡ 268) (m : Message) (e : messageIn r ≡ m) (out : List ℕ) {same : Bool} (s : same ≡ sameBytes (recordOf m) r) where
   pub no-record : same ≡ false → Replied (writeFrom r (length out)) (P.Refused badForm 0) out out
-  no-record q = replied-refused _ out badForm 0 (from-other r (length out) n m e (named ∙ q))
+  no-record q = replied-refused _ out badForm 0 (from-other r (length out) n m e (sym s ∙ q))
 
   pub record-reply : same ≡ true → {k : Message} → k ≡ m → {o : Outcome} {to : List ℕ} (size : ℕ) → ((ys : List ℕ) → writeMessage m (length out) ≡ ok ys → length ys ≡ size) → Wrote (writeMessage k (length out)) o out to → Replied (writeFrom r (length out)) (replied o size) out to
   record-reply q j {o} {to} size f w =
-      replied-as _ _ _ out to (sym (from-same r (length out) n m e (named ∙ q))) (wrote-replied (subst (λ (x : Message). Wrote (writeMessage x (length out)) o out to) j w) size f)
+      replied-as _ _ _ out to (sym (from-same r (length out) n m e (sym s ∙ q))) (wrote-replied (subst (λ (x : Message). Wrote (writeMessage x (length out)) o out to) j w) size f)
 
 -- what the code took out of an event's record
 module _ (r : List ℕ) (n : length r ≡ 268) (flags : List ℕ) (values : List ℤ) (chars : List ℕ) (f : flags ≡ flagsOf (slotsIn 19 (take 267 (drop 1 r)) (take 248 (drop 20 r)))) (v : values ≡ valuesOf (slotsIn 19 (take 267 (drop 1 r)) (take 248 (drop 20 r)))) (t : chars ≡ over (take 13 (drop 172 r)) (replicate 13 0)) where
@@ -275,13 +268,16 @@ module _ (r : List ℕ) (n : length r ≡ 268) (flags : List ℕ) (values : List
   event-is : event (slotsOf flags values) chars ≡ eventIn r
   event-is = rw (f, v, numbers-are, slots-back numbers, chars-are)
 
-  module _ (k : getD r 0 0 ≡ 1) (out bytes : List ℕ) (b : bytes ≡ filled (packed eventKind flags values chars)) (same : Bool) (s : same ≡ sameBytes bytes r) where
+  module _ (k : getD r 0 0 ≡ 1) (out : List ℕ) {same : Bool} (s : same ≡ sameBytes (filled (packed eventKind flags values chars)) r) where
+    event-same : same ≡ sameBytes (recordOf (eventIn r)) r
+    event-same = s ∙ ap (λ (x : List ℕ). sameBytes x r) event-took
+
     pub no-event : same ≡ false → Replied (writeFrom r (length out)) (P.Refused badForm 0) out out
-    no-event = no-record r n (eventIn r) (event-named r k) out bytes (b ∙ event-took) same s
+    no-event = no-record r n (eventIn r) (event-named r k) out event-same
 
     pub event-reply : same ≡ true → (o : Outcome) (to : List ℕ) → Wrote (writeMessage (event (slotsOf flags values) chars) (length out)) o out to → Replied (writeFrom r (length out)) (replied o 80) out to
     event-reply q o to =
-        record-reply r n (eventIn r) (event-named r k) out bytes (b ∙ event-took) same s q event-is 80
+        record-reply r n (eventIn r) (event-named r k) out event-same q event-is 80
         (λ ys. event-size numbers (take 13 (drop 172 r)) ys (length out) (numbers-length 19 (drop 1 r) (drop 20 r)) event-chars)
 
 -- what the code took out of a delete's record
@@ -306,14 +302,17 @@ module _ (r : List ℕ) (n : length r ≡ 268) (k : getD r 0 0 ≡ eventKind →
       let z : 13 + len - 2 ≡ 11 + len = omega arith in
       rw (z, take-add 11 len (drop 2 r), drop-drop 11 2 r, chars-length)
 
-  module _ (out bytes : List ℕ) (b : bytes ≡ filled (deleteKind ∷ len ∷ take (13 + len - 2) (drop 2 r))) (same : Bool) (s : same ≡ sameBytes bytes r) where
+  module _ (out : List ℕ) {same : Bool} (s : same ≡ sameBytes (filled (deleteKind ∷ len ∷ take (13 + len - 2) (drop 2 r))) r) where
+    delete-same : same ≡ sameBytes (recordOf (delete names chars)) r
+    delete-same = s ∙ ap (λ (x : List ℕ). sameBytes x r) delete-took
+
     pub no-delete : same ≡ false → Replied (writeFrom r (length out)) (P.Refused badForm 0) out out
-    no-delete = no-record r n (delete names chars) delete-is-in out bytes (b ∙ delete-took) same s
+    no-delete = no-record r n (delete names chars) delete-is-in out delete-same
 
     pub delete-reply : same ≡ true → (o : Outcome) (to : List ℕ) → Wrote (writeMessage (delete names (take (13 + len - 13) (drop 13 r))) (length out)) o out to → Replied (writeFrom r (length out)) (replied o (13 + len)) out to
     delete-reply q o to =
         let z : 13 + len - 13 ≡ len = omega arith in
-        record-reply r n (delete names chars) delete-is-in out bytes (b ∙ delete-took) same s q (rw z) (13 + len)
+        record-reply r n (delete names chars) delete-is-in out delete-same q (rw z) (13 + len)
         (λ ys p. delete-size names chars ys (length out) names-length p ∙ ap (λ (x : ℕ). 13 + x) chars-length)
 
 pub replied-is : (a : Answer (List ℕ)) (r s : Reply) (from to : List ℕ) → r ≡ s → Replied a s from to → Replied a r from to

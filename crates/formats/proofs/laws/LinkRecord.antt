@@ -49,7 +49,7 @@ module _ (r : List ℕ) (n : length r ≡ 268) (k : getD r 0 0 ≡ linkKind) (t 
   past h false s = refl
 
   pub link-past : 268 < 16 + t + d + x → Replied (writeFrom r (length out)) (P.Refused badForm 0) out out
-  link-past h = no-record r n (link linkNames kind address words) link-is-in out _ refl _ refl (past h _ refl)
+  link-past h = no-record r n (link linkNames kind address words) link-is-in out refl (past h _ refl)
 
   module _ (h : 16 + t + d + x ≤ 268) where
     kind-length : length kind ≡ t
@@ -69,9 +69,12 @@ module _ (r : List ℕ) (n : length r ≡ 268) (k : getD r 0 0 ≡ linkKind) (t 
         let z : 16 + t + d + x - 4 ≡ 12 + (t + (d + x)) = omega arith in
         rw (z, take-add 12 (t + (d + x)) (drop 4 r), drop-drop 12 4 r, take-add t (d + x) (drop 16 r), drop-drop t 16 r, take-add d x (drop (16 + t) r), drop-drop d (16 + t) r, kind-length, address-length, words-length)
 
-    module _ (bytes : List ℕ) (b : bytes ≡ filled (linkKind ∷ t ∷ d ∷ x ∷ take (16 + t + d + x - 4) (drop 4 r))) (same : Bool) (s : same ≡ sameBytes bytes r) where
+    module _ {same : Bool} (s : same ≡ sameBytes (filled (linkKind ∷ t ∷ d ∷ x ∷ take (16 + t + d + x - 4) (drop 4 r))) r) where
+      link-bytes-same : same ≡ sameBytes (recordOf (link linkNames kind address words)) r
+      link-bytes-same = s ∙ ap (λ (x : List ℕ). sameBytes x r) link-took
+
       pub no-link : same ≡ false → Replied (writeFrom r (length out)) (P.Refused badForm 0) out out
-      no-link = no-record r n (link linkNames kind address words) link-is-in out bytes (b ∙ link-took) same s
+      no-link = no-record r n (link linkNames kind address words) link-is-in out link-bytes-same
 
       pub link-reply : same ≡ true → (o : Outcome) (to : List ℕ)
           → Wrote (writeMessage (link linkNames (take (16 + t - 16) (drop 16 r)) (take (16 + t + d - (16 + t)) (drop (16 + t) r)) (take (16 + t + d + x - (16 + t + d)) (drop (16 + t + d) r))) (length out)) o out to
@@ -80,7 +83,7 @@ module _ (r : List ℕ) (n : length r ≡ 268) (k : getD r 0 0 ≡ linkKind) (t 
           let u : 16 + t - 16 ≡ t = omega arith in
           let v : 16 + t + d - (16 + t) ≡ d = omega arith in
           let z : 16 + t + d + x - (16 + t + d) ≡ x = omega arith in
-          record-reply r n (link linkNames kind address words) link-is-in out bytes (b ∙ link-took) same s q (rw (u, v, z)) (16 + t + d + x + 1)
+          record-reply r n (link linkNames kind address words) link-is-in out link-bytes-same q (rw (u, v, z)) (16 + t + d + x + 1)
           (λ ys m. link-back-size linkNames kind address words ys (length out) link-names-length m ∙ omega (arith, kind-length, address-length, words-length))
 
 -- ---- the record of a line

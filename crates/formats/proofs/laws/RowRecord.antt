@@ -4,7 +4,7 @@ use mathlib.Core.Path.{_≡_, refl, sym, ap, _∙_}
 use mathlib.Core.List.{List}
 use Prim.Native.Nat.{ℕ, _+_, _*_, _-_, _≤_, _<_}
 use native.Mathlib.Omega.{arith}
-use lib.ListN.{length, replicate, take, drop, length-drop, length-append}
+use lib.ListN.{length, take, drop, length-drop, length-append}
 use lib.Seq.{take-all, take-at, length-take-le}
 use lib.IntN.{ℤ}
 use borrow.Author.Tests.{lt-ltb, le-ltb}
@@ -129,14 +129,12 @@ module _ {kind : ℕ} {f : Format} (o : Formed kind f) where
     abbrev named : Rec
     named = rowIn (F .columns) r
 
-    pub taken-sizes : (length fs ≡ allSlots (F .columns)) × ((length vs ≡ allSlots (F .columns)) × (length t ≡ allTexts (F .columns)))
-    taken-sizes = rw (k .flags, k .values, k .chars) (flags-length (named .numbers) ∙ numbers-size F r, (values-length (named .numbers) ∙ numbers-size F r, chars-size F r (k .long)))
+    pub taken-sizes : (length fs ≡ allSlots (F .columns)) × ((length vs ≡ allSlots (F .columns)) × ((length t ≡ allTexts (F .columns)) × (length r ≡ rowSize (F .columns))))
+    taken-sizes = rw (k .flags, k .values, k .chars) (flags-length (named .numbers) ∙ numbers-size F r, (values-length (named .numbers) ∙ numbers-size F r, (chars-size F r (k .long), k .long)))
 
-    module _ (out : List ℕ) {bytes : List ℕ} {same : Bool} (i : bytes ≡ over (packed (F .kind) fs vs t) (replicate 512 0)) (u : same ≡ sameBytes (take (length r - 0) (drop 0 bytes)) r) where
+    module _ (out : List ℕ) {same : Bool} (u : same ≡ sameBytes (packed (F .kind) fs vs t) r) where
       same-is : sameBytes (rowBytes F named) r ≡ same
-      same-is =
-          let e = over-part (rowBytes F named) (replicate 512 0) (length r) (row-bytes-length F named (numbers-size F r) (chars-size F r (k .long)) ∙ sym (k .long)) in
-          sym (u ∙ rw (i, k .flags, k .values, k .chars, e))
+      same-is = sym (u ∙ rw (k .flags, k .values, k .chars))
 
       pub row-no-record : same ≡ false → Replied (rowLineAnswer (F .columns) (namedRow F r) (length out)) (R.Refused badForm 0) out out
       unfolding namedRow

@@ -5,14 +5,14 @@ use Rattle.formats.proofs.cube_record.write_delete_from.Tie as tie
 
 returns : tie.Need-returns
 returns c =
-    let p = c .before .before .before .before .before .before .before .before .before .before .before .before .before .before .before .pre in
+    let p = c .before .before .before .before .before .before .before .before .before .before .before .before .before .pre in
     replied-is _ _ _ _ _ (c .reply-of .ensures)
-    (delete-reply _ (p .0) (p .1 .0) (p .1 .1 .0) _ (p .1 .1 .1) (search needs) _ _ (c .before .before .before .before .before .before .before .before .before .before .text-bytes .ensures) _ (c .before .before .before .before .before .before .before .before .same .ensures) (c .before .before .before .before .before .before .before .if1 .taken) _ _ (c .before .before .before .write-delete .ensures))
+    (delete-reply _ (p .0) (p .1 .0) (p .1 .1 .0) _ (p .1 .1 .1) (search needs) _ (c .before .before .before .before .before .before .before .before .is-laid .ensures) (c .before .before .before .before .before .before .before .if1 .taken) _ _ (c .before .before .before .write-delete .ensures))
 
 returns-2 : tie.Need-returns-2
 returns-2 c =
-    let p = c .before .before .before .before .before .before .before .before .pre in
-    no-delete _ (p .0) (p .1 .0) (p .1 .1 .0) _ (p .1 .1 .1) (search needs) _ _ (c .before .before .before .text-bytes .ensures) _ (c .before .same .ensures) (c .if1 .left)
+    let p = c .before .before .before .before .before .before .pre in
+    no-delete _ (p .0) (p .1 .0) (p .1 .1 .0) _ (p .1 .1 .1) (search needs) _ (c .before .is-laid .ensures) (c .if1 .left)
 
 pub write-delete-from-spec : {M : Type 1} → statement M
 write-delete-from-spec =
@@ -22,8 +22,6 @@ write-delete-from-spec =
     (λ c. search needs)
     (λ c. search needs)
     (λ c. search needs)
-    (λ c. search needs)
-    (λ c κs. search needs)
     (λ c. search needs)
     (λ c κs. search needs)
     (λ c. search needs)

@@ -11,14 +11,14 @@ returns c =
 
 returns-2 : tie.Need-returns-2
 returns-2 c =
-    let p = c .before .before .before .before .before .before .before .before .before .before .before .before .before .before .before .before .before .before .pre in
+    let p = c .before .before .before .before .before .before .before .before .before .before .before .before .before .before .before .before .pre in
     replied-is _ _ _ _ _ (c .reply-of .ensures)
-    (link-reply _ (p .0) (p .1 .0) _ _ _ (p .1 .1 .0) (p .1 .1 .1 .0) (p .1 .1 .1 .1) _ (c .before .before .before .before .before .before .before .before .before .before .before .before .before .before .before .if1 .left) _ (c .before .before .before .before .before .before .before .before .before .before .before .before .text-bytes .ensures) _ (c .before .before .before .before .before .before .before .before .before .before .same .ensures) (c .before .before .before .before .before .before .before .before .before .if2 .taken) _ _ (c .before .before .before .write-link .ensures))
+    (link-reply _ (p .0) (p .1 .0) _ _ _ (p .1 .1 .0) (p .1 .1 .1 .0) (p .1 .1 .1 .1) _ (c .before .before .before .before .before .before .before .before .before .before .before .before .before .if1 .left) (c .before .before .before .before .before .before .before .before .before .before .is-laid .ensures) (c .before .before .before .before .before .before .before .before .before .if2 .taken) _ _ (c .before .before .before .write-link .ensures))
 
 returns-3 : tie.Need-returns-3
 returns-3 c =
-    let p = c .before .before .before .before .before .before .before .before .before .pre in
-    no-link _ (p .0) (p .1 .0) _ _ _ (p .1 .1 .0) (p .1 .1 .1 .0) (p .1 .1 .1 .1) _ (c .before .before .before .before .before .before .if1 .left) _ (c .before .before .before .text-bytes .ensures) _ (c .before .same .ensures) (c .if2 .left)
+    let p = c .before .before .before .before .before .before .before .pre in
+    no-link _ (p .0) (p .1 .0) _ _ _ (p .1 .1 .0) (p .1 .1 .1 .0) (p .1 .1 .1 .1) _ (c .before .before .before .before .if1 .left) (c .before .is-laid .ensures) (c .if2 .left)
 
 pub write-link-from-spec : {M : Type 1} → statement M
 write-link-from-spec =
@@ -31,8 +31,6 @@ write-link-from-spec =
     (λ c. search needs)
     (λ c. search needs)
     (λ c. search needs)
-    (λ c. search needs)
-    (λ c κs. search needs)
     (λ c. search needs)
     (λ c κs. search needs)
     (λ c. search needs)
