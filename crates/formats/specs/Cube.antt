@@ -1,6 +1,6 @@
 -- CUBE lines: E, DE and LI messages, as they are read and written. Document 01, "The E line", "The DE line"; document 02,
 -- "Take the links".
-use Prim.Native.Nat.{ℕ}
+use Prim.Native.Nat.{ℕ, _+_}
 use mathlib.Core.Path.{_≡_}
 use mathlib.Core.List.{List, [], _∷_, _++_}
 use mathlib.Core.Bool.{Bool, true, _&&_}
@@ -128,6 +128,10 @@ linkParts l =
     pick (eqb (getD l 14 0) 32 && formed (typeOf l) (addressOf l) (textOf l))
     (ok (link (take 12 (drop 2 l)) (typeOf l) (addressOf l) (textOf l))) (refusal badForm 15)
 
+-- the same by the lengths of type and address, a blank after each
+abbrev pub linkOf : List ℕ → ℕ → ℕ → Message
+linkOf l t d = link (take 12 (drop 2 l)) (take t (drop 15 l)) (take d (drop (16 + t) l)) (drop (17 + t + d) l)
+
 -- an LI line: 20 to 255 bytes, a version of two bytes, a blank in column 15, then the parts
 unfoldable pub readLink : List ℕ → Answer Message
 readLink l = readText 20 255 14 linkParts l
@@ -170,6 +174,7 @@ eventPart l =
 abbrev pub linePart : List ℕ → Rec
 linePart l = pick (isType 69 32 l) (eventPart l) nothing
 
+-- the outcome, and the lent arrays: the numbers and the text over their first places
 pub record LineRead (a : Answer Message) (part : Rec) (r : Read) (f f₁ : List ℕ) (v v₁ : List ℤ) (t t₁ : List ℕ) : Type 0 where
   pub answer : r ≡ lineRead a
   pub flags : f₁ ≡ over (flagsOf (part .numbers)) f

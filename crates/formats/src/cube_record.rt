@@ -18,10 +18,10 @@ use columns::cursor::Cursor;
 ghost use mathlib.Core.Path.{_≡_};
 ghost use mathlib.Core.List.{_++_};
 ghost use Prim.Native.Nat.{_+_, _≤_};
-ghost use lib.ListN.{length, take, drop, getD};
+ghost use lib.ListN.{length, getD};
 ghost use Rattle.columns.specs.Bytes.{sameBytes};
 ghost use Rattle.columns.specs.Table.{over};
-ghost use Rattle.formats.specs.Cube.{eventKind, linkKind, deleteOf, link};
+ghost use Rattle.formats.specs.Cube.{eventKind, linkKind, deleteOf, linkOf};
 ghost use Rattle.formats.specs.Record.{packed, Replied, replied};
 ghost use Rattle.formats.specs.CubeRecord.{filled, recordOf, readInto, writeFrom};
 
@@ -67,7 +67,7 @@ fn delete_bytes(line: &[u8]) -> [u8; 268]
 // A link's record, from a line with a type and an address of these lengths.
 fn link_bytes(line: &[u8], kind: usize, address: usize) -> [u8; 268]
     requires { ⌜ (17 + kind + address ≤ length (now line)) × (length (now line) ≤ 255) ⌝ }
-    ensures { λ r. ⌜ r ≡ recordOf (link (take 12 (drop 2 (now (line .entry)))) (take kind (drop 15 (now (line .entry)))) (take address (drop (16 + kind) (now (line .entry)))) (drop (17 + kind + address) (now (line .entry)))) ⌝ }
+    ensures { λ r. ⌜ r ≡ recordOf (linkOf (now (line .entry)) kind address) ⌝ }
 {
     let end = 16 + kind;
     let rest = end + address;

@@ -17,7 +17,7 @@ use Rattle.columns.proofs.laws.Table.{flags-length, values-length, slots-back}
 use Rattle.formats.specs.declared.Reply.{Reply}
 use Rattle.formats.specs.declared.cube.Read.{Read}
 use Rattle.formats.specs.Link.{typeOf, addressOf}
-use Rattle.formats.specs.Cube.{Message, event, delete, link, eventKind, deleteKind, linkKind, deleteOf, readLine, lineRead, linePart, LineRead, writeMessage}
+use Rattle.formats.specs.Cube.{Message, event, delete, link, eventKind, deleteKind, linkKind, deleteOf, linkOf, readLine, lineRead, linePart, LineRead, writeMessage}
 use Rattle.columns.specs.Bytes.{sameBytes}
 use Rattle.formats.specs.Record.{valueBytes, packed, slotsIn, replied, Replied}
 use Rattle.formats.specs.CubeRecord.{filled, recordOf, eventIn, deleteIn, linkIn, messageIn, readRecord, recordAnswer, readInto, writeFrom}
@@ -140,10 +140,10 @@ module _ (l out : List ℕ) (h : 268 ≤ length out) where
         by-message (link names ty ad tx) e p = let z : k ≡ linkKind = cc in absurd (omega arith)
 
     -- a link: its parts stand in the line
-    pub link-says : k ≡ linkKind → (17 + t + d ≤ length l) × ((length l ≤ 255) × (readLine l ≡ ok (link (take 12 (drop 2 l)) (take t (drop 15 l)) (take d (drop (16 + t) l)) (drop (17 + t + d) l))))
+    pub link-says : k ≡ linkKind → (17 + t + d ≤ length l) × ((length l ≤ 255) × (readLine l ≡ ok (linkOf l t d)))
     link-says i = let u = was-there (readLine l) k t d n q in by-message (u .message) (u .is) (u .says)
       where
-        by-message : (m : Message) → readLine l ≡ ok m → lineRead (ok m) ≡ R.There k t d n → (17 + t + d ≤ length l) × ((length l ≤ 255) × (readLine l ≡ ok (link (take 12 (drop 2 l)) (take t (drop 15 l)) (take d (drop (16 + t) l)) (drop (17 + t + d) l))))
+        by-message : (m : Message) → readLine l ≡ ok m → lineRead (ok m) ≡ R.There k t d n → (17 + t + d ≤ length l) × ((length l ≤ 255) × (readLine l ≡ ok (linkOf l t d)))
         by-message (event ns s) e p = let z : k ≡ eventKind = cc in absurd (omega arith)
         by-message (delete names s) e p = let z : k ≡ deleteKind = cc in absurd (omega arith)
         by-message (link names ty ad tx) e p =
@@ -155,7 +155,7 @@ module _ (l out : List ℕ) (h : 268 ≤ length out) where
             let b : length (addressOf l) ≡ d = ap length y ∙ cc in
             (omega (arith, parts-inside l w), (w .short, rw (← a, ← b, type-taken l, address-taken l, text-word l) (e ∙ ap ok (sym j))))
 
-    pub read-link : {bytes to : List ℕ} → k ≡ linkKind → bytes ≡ recordOf (link (take 12 (drop 2 l)) (take t (drop 15 l)) (take d (drop (16 + t) l)) (drop (17 + t + d) l)) → to ≡ over bytes out → Replied (readInto l (length out)) (P.Done 268) out to
+    pub read-link : {bytes to : List ℕ} → k ≡ linkKind → bytes ≡ recordOf (linkOf l t d) → to ≡ over bytes out → Replied (readInto l (length out)) (P.Done 268) out to
     read-link {bytes} {to} i = made _ bytes to (link-says i .1 .1)
 
     -- a delete: its record is the line after its type
@@ -187,7 +187,7 @@ pub link-laid : (l : List ℕ) (t d : ℕ) → 17 + t + d ≤ length l → lengt
     → b ≡ placed 4 (slice 2 (2 + 12) l) a
     → c ≡ placed 16 (slice 15 (15 + t) l) b
     → e ≡ placed (16 + t) (slice (16 + t) (16 + t + d) l) c
-    → f ≡ placed (16 + t + d) (slice (16 + t + d + 1) (16 + t + d + 1 + (length l - (16 + t + d + 1))) l) e → f ≡ recordOf (link (take 12 (drop 2 l)) (take t (drop 15 l)) (take d (drop (16 + t) l)) (drop (17 + t + d) l))
+    → f ≡ placed (16 + t + d) (slice (16 + t + d + 1) (16 + t + d + 1 + (length l - (16 + t + d + 1))) l) e → f ≡ recordOf (linkOf l t d)
 link-laid l t d h k {a} {b} {c} {e} {f} p q r s u =
     let i : 16 + t + d + 1 ≡ 17 + t + d = omega arith in
     let head = linkKind ∷ t ∷ d ∷ (length l - (16 + t + d + 1)) ∷ [] in
