@@ -41,13 +41,16 @@ extern "C" {
 #define ROTMIBEL_LINE_END(r) ((size_t)(((r) >> 24) & 0xfffff))     /* rotmibel_block_line: where the line ends */
 #define ROTMIBEL_LINE_NEXT(r) ((size_t)((r) >> 44))                /* rotmibel_block_line: the place after it, where the next one starts */
 #define ROTMIBEL_PLACE(r) ((size_t)((r) >> 24))                    /* rotmibel_write_header and _record, READ: the place after */
+/* The same parts of what a call on an arrival block returns. */
+#define ROTMIBEL_ARRIVAL_COUNT(r) ROTMIBEL_PHASE_COUNT(r)          /* rotmibel_read_arrival_block, READ: the arrival lines */
+#define ROTMIBEL_LINE_ARRIVAL(r) ROTMIBEL_LINE_PHASE(r)            /* rotmibel_arrival_block_line: the arrival line it is or belongs to */
 
 /* Answers. */
 #define ROTMIBEL_READ 0      /* read or written */
 #define ROTMIBEL_BAD_LENGTH 1 /* the length of a line, or of the line that a record would make; column 0 */
 #define ROTMIBEL_BARRED 2    /* a byte that may not stand in its column; that column */
 #define ROTMIBEL_TYPE 3      /* neither `E ` nor `DE` nor `LI`; column 1 */
-#define ROTMIBEL_SEPARATOR 4 /* a separator of a phase line is not blank; its column */
+#define ROTMIBEL_SEPARATOR 4 /* a separator of a phase or arrival line is not blank; its column */
 #define ROTMIBEL_REQUIRED 5  /* a required field is blank or missing; its first column */
 #define ROTMIBEL_FORM 6      /* a field of bad form, its first column; malformed parts of a link, column 15; no record, column 0 */
 #define ROTMIBEL_RANGE 7     /* a number out of its range; the field's first column */
@@ -57,7 +60,7 @@ extern "C" {
 #define ROTMIBEL_SHORT 11    /* the lent buffer or room is too short; column 0 */
 #define ROTMIBEL_FULL 12     /* a new pair while the catalogue names 512; column 0 */
 #define ROTMIBEL_DISORDER 13 /* the room is no catalogue in order; column 0 */
-#define ROTMIBEL_OUT_OF_PLACE 14 /* a block's first line is not the header, or a comment before any phase line; column 0 */
+#define ROTMIBEL_OUT_OF_PLACE 14 /* a block's first line is not the header, or a comment before any phase or arrival line; column 0 */
 #define ROTMIBEL_NOT_CLOSED 15   /* a comment that does not end in `)`; column 0 */
 #define ROTMIBEL_LINKS_FULL 16   /* a link of a new source, identifier and type while the catalogue has 64 links; column 0 */
 
@@ -75,18 +78,22 @@ extern "C" {
 /* What a line of a block is. */
 #define ROTMIBEL_IS_NOTHING 0  /* no line there */
 #define ROTMIBEL_IS_HEADER 40  /* the header */
-#define ROTMIBEL_IS_PHASE 41   /* a phase line */
+#define ROTMIBEL_IS_PHASE 41   /* in a phase block: a phase line */
+#define ROTMIBEL_IS_ARRIVAL 41 /* in an arrival block: an arrival line */
 #define ROTMIBEL_IS_COMMENT 42 /* a comment */
 #define ROTMIBEL_IS_CLOSING 43 /* the closing blank line */
 
-/* Sizes: a CUBE record of any kind, the longest CUBE line, an E line, a phase record, a written phase line, a line of a written block with
-   its newline, the longest block. */
+/* Sizes: a CUBE record of any kind, the longest CUBE line, an E line, a phase record, a written phase line, a line of a written phase block
+   with its newline, the same three of arrivals, the longest block. */
 #define ROTMIBEL_RECORD 268
 #define ROTMIBEL_LINE 255
 #define ROTMIBEL_EVENT_LINE 80
 #define ROTMIBEL_PHASE_RECORD 231
 #define ROTMIBEL_PHASE_LINE 199
 #define ROTMIBEL_BLOCK_LINE 200
+#define ROTMIBEL_ARRIVAL_RECORD 240
+#define ROTMIBEL_ARRIVAL_LINE 203
+#define ROTMIBEL_ARRIVAL_BLOCK_LINE 204
 #define ROTMIBEL_BLOCK 65536
 
 /* Sizes of a catalogue: its room, the room as it was before links (see below), the most pairs of source and identifier that it names, the
@@ -103,6 +110,7 @@ extern "C" {
 #define ROTMIBEL_DELETE 2
 #define ROTMIBEL_PHASE 3
 #define ROTMIBEL_LINK 4
+#define ROTMIBEL_ARRIVAL 5
 
 /*
  * Read a CUBE line, `E `, `DE` or `LI`, into a record.
@@ -203,6 +211,47 @@ uint64_t rotmibel_write_header(uint8_t *out, size_t out_len, size_t at);
 uint64_t rotmibel_write_record(const uint8_t *record, size_t record_len, uint8_t *out, size_t out_len, size_t at);
 
 /*
+ * Read an ISF 2.1 automatic arrival line (ARRIVAL:AUTOMATIC) into a record. A line of fewer than 203 bytes is read as if blank-filled.
+ *
+ * line, line_len      the line
+ * record, record_len  where the record goes: at least ROTMIBEL_ARRIVAL_RECORD bytes, the first of which are written
+ *
+ * Answers, looked for in this order: SHORT (record_len); BAD_LENGTH (over 203 bytes); BARRED (the lowest such column); then the columns
+ * from left to right, each SEPARATOR, or REQUIRED (the station is all blank), FORM, RANGE; else READ, with length
+ * ROTMIBEL_ARRIVAL_RECORD. A network that begins with a blank and is not all blank is FORM at column 1. A date is all blank, or its two
+ * slashes and three numbers, else FORM at column 30; then RANGE there. LETTER is never answered.
+ */
+uint64_t rotmibel_read_arrival(const uint8_t *line, size_t line_len, uint8_t *record, size_t record_len);
+
+/*
+ * Write an arrival record as a line of 203 bytes.
+ *
+ * Answers, looked for in this order: FORM at column 0 (no record, also a date or a time with some of its parts missing); SHORT; then the
+ * columns from left to right, each REQUIRED (of the network FORM), BARRED, WIDE, RANGE; else READ, with the line's length. What is written
+ * reads back to the same record.
+ */
+uint64_t rotmibel_write_arrival(const uint8_t *record, size_t record_len, uint8_t *line, size_t line_len);
+
+/*
+ * An arrival block is as a phase block, with a header of its own and arrival lines. The line `DATA_TYPE ARRIVAL:AUTOMATIC ISF2.1` that
+ * comes before it in a message is no part of it, and neither call reads the blocks of the other. Each call below answers as the
+ * phase block's call does, with the lines' refusals those of rotmibel_read_arrival and rotmibel_write_arrival.
+ */
+
+/* As rotmibel_read_block: READ with ARRIVAL_COUNT, COMMENT_COUNT and BYTES_USED, or a refusal with its COLUMN and LINE_NUMBER. */
+uint64_t rotmibel_read_arrival_block(const uint8_t *block, size_t block_len);
+
+/* As rotmibel_block_line: LINE_KIND, LINE_ARRIVAL, LINE_END and LINE_NEXT. The bytes of an arrival line can be handed to
+   rotmibel_read_arrival. */
+uint64_t rotmibel_arrival_block_line(const uint8_t *block, size_t block_len, uint64_t before);
+
+/* As rotmibel_write_header: SHORT where fewer than ROTMIBEL_ARRIVAL_BLOCK_LINE bytes are left from `at`; else READ, with PLACE. */
+uint64_t rotmibel_write_arrival_header(uint8_t *out, size_t out_len, size_t at);
+
+/* As rotmibel_write_record. A block of at most ROTMIBEL_BLOCK bytes holds the header and 320 records. */
+uint64_t rotmibel_write_arrival_record(const uint8_t *record, size_t record_len, uint8_t *out, size_t out_len, size_t at);
+
+/*
  * The catalogue lives in a room, ROTMIBEL_ROOM bytes that the caller keeps, saves and loads as he likes. A zeroed room is an empty
  * catalogue. Of a longer room only the first ROTMIBEL_ROOM bytes are looked at and changed. Two rooms that took the same acceptable
  * lines, in any order and with any repeats, are equal byte for byte (docs/PROMISES.md has the premises).
@@ -259,12 +308,15 @@ static inline const uint8_t *rotmibel_link_entry(const uint8_t *room, size_t ind
 /* Whether number `index` (from 0) of an event's record is there. */
 static inline int rotmibel_has_number(const uint8_t *record, unsigned index) { return record[1 + index] != 0; }
 
-/* Number `index` (from 0) of an event's record; 0 where it is missing. */
-static inline int64_t rotmibel_number(const uint8_t *record, unsigned index) {
+/* The number in eight bytes of a record. */
+static inline int64_t rotmibel_number_at(const uint8_t *bytes) {
     uint64_t n = 0;
-    for (unsigned i = 0; i < 8; i++) n = n << 8 | record[20 + 8 * index + i];
+    for (unsigned i = 0; i < 8; i++) n = n << 8 | bytes[i];
     return n >> 63 ? -(int64_t)(~n) - 1 : (int64_t)n;
 }
+
+/* Number `index` (from 0) of an event's record; 0 where it is missing. */
+static inline int64_t rotmibel_number(const uint8_t *record, unsigned index) { return rotmibel_number_at(record + 20 + 8 * index); }
 
 /* The numbers of an event's record. Scaled as the columns are: seconds, kilometres and magnitudes by 10, rms by 100, degrees by
    10,000; gap in percent of a circle. */
@@ -276,11 +328,7 @@ enum rotmibel_event_number {
 
 /* Whether number `index` (from 0) of a phase record is there; and the number, 0 where it is missing. */
 static inline int rotmibel_phase_has(const uint8_t *record, unsigned index) { return record[1 + index] != 0; }
-static inline int64_t rotmibel_phase_number(const uint8_t *record, unsigned index) {
-    uint64_t n = 0;
-    for (unsigned i = 0; i < 8; i++) n = n << 8 | record[19 + 8 * index + i];
-    return n >> 63 ? -(int64_t)(~n) - 1 : (int64_t)n;
-}
+static inline int64_t rotmibel_phase_number(const uint8_t *record, unsigned index) { return rotmibel_number_at(record + 19 + 8 * index); }
 
 /* The numbers of a phase record, each scaled by the decimals of its column: seconds of the time by 1,000, distance and period by 100,
    latitude and longitude by 10,000, the others by 10. */
@@ -298,6 +346,26 @@ enum rotmibel_phase_number {
 #define ROTMIBEL_P_PICK 179          /* type of pick, direction, onset: 1 byte each */
 #define ROTMIBEL_P_MAGNITUDE_TYPE 182 /* 5 bytes, then 1 byte `<`, `>` or blank */
 #define ROTMIBEL_P_ARRIVAL 188       /* 8 bytes and 3 of its extension */
+
+/* Whether number `index` (from 0) of an arrival record is there; and the number, 0 where it is missing. */
+static inline int rotmibel_arrival_has(const uint8_t *record, unsigned index) { return record[1 + index] != 0; }
+static inline int64_t rotmibel_arrival_number(const uint8_t *record, unsigned index) { return rotmibel_number_at(record + 18 + 8 * index); }
+
+/* The numbers of an arrival record, each scaled by the decimals of its column: seconds of the time by 1,000, period by 100, latitude and
+   longitude by 10,000, the others but date, hour and minute by 10. */
+enum rotmibel_arrival_number {
+    ROTMIBEL_A_YEAR, ROTMIBEL_A_MONTH, ROTMIBEL_A_DAY, ROTMIBEL_A_HOUR, ROTMIBEL_A_MINUTE, ROTMIBEL_A_SECOND, ROTMIBEL_A_AZIMUTH,
+    ROTMIBEL_A_SLOWNESS, ROTMIBEL_A_SIGNAL_TO_NOISE, ROTMIBEL_A_AMPLITUDE, ROTMIBEL_A_PERIOD, ROTMIBEL_A_SHORT_TERM_AVERAGE,
+    ROTMIBEL_A_DURATION, ROTMIBEL_A_LATITUDE, ROTMIBEL_A_LONGITUDE, ROTMIBEL_A_ELEVATION, ROTMIBEL_A_DEPTH
+};
+
+/* Where the text of an arrival record stands; docs/RECORDS.md has the rest. */
+#define ROTMIBEL_A_NETWORK 154   /* 9 bytes */
+#define ROTMIBEL_A_STATION 163   /* 5 bytes */
+#define ROTMIBEL_A_BEAM 168      /* 12 bytes */
+#define ROTMIBEL_A_PHASE 180     /* 8 bytes */
+#define ROTMIBEL_A_AUTHOR 188    /* 9 bytes: the author of the detection */
+#define ROTMIBEL_A_DETECTION 197 /* 8 bytes and 3 of its extension */
 
 /* Where the text of an event's record stands: identifier 8 bytes, source 2, version 1, magnitude letter 1, method 1. */
 #define ROTMIBEL_EVENT_IDENTIFIER 172

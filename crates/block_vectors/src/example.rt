@@ -1,6 +1,7 @@
 // A phase block of document 003's example: its header, its phase lines, two of its comments and a closing line. The printed
 // example has lost its columns, so each line is laid out by the table "Phase Block Format".
-ghost use Prim.Native.Nat.{_≤_};
+ghost use Prim.Native.Nat.{_+_, _≤_};
+ghost use lib.ListN.{length};
 
 // Values are those printed, and blank where none is. Seconds have the table's three decimals; an identification of nine
 // digits reaches into its extension, and a digit printed once more behind it is left out.
@@ -70,8 +71,6 @@ const ORIGIN: [u8; 19] = *b" (#OrigID 12345678)";
 
 const MEASURE: [u8; 33] = *b" (#MEASURE CODA_DURATION=5.4+0.2)";
 
-pub const PHASES: usize = 19;
-
 // The header or a phase line by its number in the block, from 0: the comments are lines 2 and 21, the closing line is line 22.
 fn wide_line(line: usize) -> [u8; 199] {
     match line {
@@ -111,13 +110,13 @@ fn line_start(line: usize) -> usize
     }
 }
 
-// Puts bytes into the block from a place on.
-fn put(block: &mut [u8; 4055], at: usize, bytes: &[u8])
-    requires { ⌜ at ≤ 4055 ⌝ }
+// Puts bytes into a block from a place on, as far as it reaches.
+pub fn put(block: &mut [u8], at: usize, bytes: &[u8])
+    requires { ⌜ at + length (now bytes) ≤ 65536 ⌝ }
 {
     let mut i = 0;
     while i < bytes.len() {
-        if 4055 <= at + i {
+        if block.len() <= at + i {
             return;
         }
         block[at + i] = bytes[i];
@@ -125,25 +124,23 @@ fn put(block: &mut [u8; 4055], at: usize, bytes: &[u8])
     }
 }
 
+// Puts the header or a phase line in its place.
+fn put_line(block: &mut [u8], line: usize) {
+    if line == 2 {
+        return;
+    }
+    put(block, line_start(line), &wide_line(line));
+}
+
 // The whole block: newlines, and the lines over them.
 pub fn block() -> [u8; 4055] {
     let mut out = [b'\n'; 4055];
     let mut line = 0;
     while line < 21 {
-        if line != 2 {
-            put(&mut out, line_start(line), &wide_line(line));
-        }
+        put_line(&mut out, line);
         line += 1;
     }
     put(&mut out, line_start(2), &ORIGIN);
     put(&mut out, line_start(21), &MEASURE);
     out
-}
-
-// The phase lines, from 0.
-pub fn phase_line(phase: usize) -> [u8; 199] {
-    if phase == 0 {
-        return wide_line(1);
-    }
-    wide_line(std::num::wrapping_add_usize(phase, 2))
 }

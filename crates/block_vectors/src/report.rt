@@ -1,25 +1,21 @@
-// What the program prints: answers, and the values of a phase record by name. docs/RECORDS.md has the places of its bytes.
+// What the program prints: answers, and the values of a record by name. docs/RECORDS.md has the places of its bytes.
+use super::names::ARRIVAL_NUMBERS;
+use super::names::ARRIVAL_TEXTS;
+use super::names::ARRIVAL_WIDTHS;
+use super::names::PHASE_NUMBERS;
+use super::names::PHASE_TEXTS;
+use super::names::PHASE_WIDTHS;
 use super::rows::row;
 use columns::word::read_word;
+use formats::format::ARRIVAL;
 use formats::record::signed_of;
 use libc::STDOUT_FILENO;
 ghost use Prim.Native.Nat.{_≤_};
 
 // What is answered: the first two for a line, all for a block.
-const ANSWER_NAMES: [u8; 46] = *b"answer|column|line|phases|comments|bytes used|";
+const PHASE_ANSWERS: [u8; 46] = *b"answer|column|line|phases|comments|bytes used|";
 
-// A record's texts in the order of their columns.
-const TEXT_NAMES: [u8; 243] = *b"station|phase|time defining|azimuth defining|slowness defining|\
-    type of pick|short period motion|onset|magnitude type|bound|arrival|arrival extension|\
-    agency|deployment|location|author|reporter|phase channel|amplitude channel|long period motion|";
-
-// Their widths.
-const TEXT_WIDTHS: [u8; 20] = *b"58111111518358255331";
-
-// A record's numbers in the order of their columns.
-const NUMBER_NAMES: [u8; 195] = *b"distance|event azimuth|hour|minute|second|\
-    time residual|observed azimuth|azimuth residual|slowness|slowness residual|\
-    signal to noise|amplitude|period|magnitude|latitude|longitude|elevation|depth|";
+const ARRIVAL_ANSWERS: [u8; 48] = *b"answer|column|line|arrivals|comments|bytes used|";
 
 pub fn say(s: &[u8]) {
     io::write_all(STDOUT_FILENO, s);
@@ -30,15 +26,24 @@ pub fn say_count(n: u64) {
 }
 
 // What is answered, by name.
-pub fn say_answer(numbers: &[usize]) {
+fn say_answer(names: &[u8], numbers: &[usize]) {
     let mut i = 0;
     while i < numbers.len() {
-        say(row(&ANSWER_NAMES, i));
+        say(row(names, i));
         say(b" ");
         say_count(numbers[i] as u64);
         say(b"\n");
         i += 1;
     }
+}
+
+// What is answered for a block of a kind.
+pub fn say_counts(kind: u8, numbers: &[usize; 6]) {
+    if kind == ARRIVAL {
+        say_answer(&ARRIVAL_ANSWERS, &numbers[..]);
+        return;
+    }
+    say_answer(&PHASE_ANSWERS, &numbers[..]);
 }
 
 fn say_number(flag: u8, v: i64) {
@@ -53,12 +58,15 @@ fn say_number(flag: u8, v: i64) {
     say(b"\n");
 }
 
-fn say_numbers(record: &[u8; 231]) {
+// The n numbers of a record.
+fn say_numbers(record: &[u8; 240], n: usize, names: &[u8])
+    requires { ⌜ n ≤ 20 ⌝ }
+{
     let all = &record[..];
     let mut i = 0;
-    while i < 18 {
-        let at = 19 + 8 * i;
-        say(row(&NUMBER_NAMES, i));
+    while i < n {
+        let at = 1 + n + 8 * i;
+        say(row(names, i));
         say(b" ");
         say_number(all[1 + i], signed_of(read_word(&all[at..at + 8])));
         i += 1;
@@ -66,8 +74,8 @@ fn say_numbers(record: &[u8; 231]) {
 }
 
 // Bytes of a record, in quotes.
-fn say_quoted(record: &[u8; 231], from: usize, end: usize)
-    requires { ⌜ (from ≤ end) × (end ≤ 231) ⌝ }
+fn say_quoted(record: &[u8; 240], from: usize, end: usize)
+    requires { ⌜ (from ≤ end) × (end ≤ 240) ⌝ }
 {
     let all = &record[..];
     say(b"\"");
@@ -75,24 +83,24 @@ fn say_quoted(record: &[u8; 231], from: usize, end: usize)
     say(b"\"\n");
 }
 
-fn digit(b: u8) -> usize
-    ensures { λ r. ⌜ r ≤ 9 ⌝ }
+fn wide(b: u8) -> usize
+    ensures { λ r. ⌜ r ≤ 255 ⌝ }
 {
-    if b < 48 {
-        return 0;
-    }
-    (b - 48) as usize % 10
+    b as usize
 }
 
-fn say_texts(record: &[u8; 231]) {
-    let mut from = 163;
+// The texts of a record, from a place on.
+fn say_texts(record: &[u8; 240], start: usize, names: &[u8], widths: &[u8])
+    requires { ⌜ start ≤ 240 ⌝ }
+{
+    let mut from = start;
     let mut i = 0;
-    while i < 20 {
-        let end = from + digit(TEXT_WIDTHS[i]);
-        if 231 < end {
+    while i < widths.len() {
+        let end = from + wide(widths[i]);
+        if 240 < end {
             return;
         }
-        say(row(&TEXT_NAMES, i));
+        say(row(names, i));
         say(b" ");
         say_quoted(record, from, end);
         from = end;
@@ -100,12 +108,21 @@ fn say_texts(record: &[u8; 231]) {
     }
 }
 
-// A phase line by its number: the answer, and the record.
-pub fn say_phase(number: usize, answer: &[usize; 2], record: &[u8; 231]) {
-    say(b"phase line ");
+// A line by its number in a block of a kind: the answer, and the record.
+pub fn say_row(kind: u8, number: usize, answer: &[usize; 2], record: &[u8; 240]) {
+    if kind == ARRIVAL {
+        say(b"arrival line ");
+    } else {
+        say(b"phase line ");
+    }
     say_count(number as u64);
     say(b"\n");
-    say_answer(&answer[..]);
-    say_texts(record);
-    say_numbers(record);
+    say_answer(&PHASE_ANSWERS, &answer[..]);
+    if kind == ARRIVAL {
+        say_texts(record, 154, &ARRIVAL_TEXTS, &ARRIVAL_WIDTHS);
+        say_numbers(record, 17, &ARRIVAL_NUMBERS);
+    } else {
+        say_texts(record, 163, &PHASE_TEXTS, &PHASE_WIDTHS);
+        say_numbers(record, 18, &PHASE_NUMBERS);
+    }
 }

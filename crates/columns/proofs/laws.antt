@@ -13,6 +13,7 @@ pub mod Form
 pub mod Ranges
 pub mod GroupBack
 pub mod Cursor
+pub mod Rules
 pub mod Table
 pub mod Reader
 pub mod Puts

@@ -54,11 +54,14 @@ required = true
 abbrev pub optional : Bool
 optional = false
 
--- what a text may be: any text; text with no brackets; text that does not begin with a blank
+-- what a text may be: any text; text with no brackets; text that does not begin with a blank; text that is not all blank; all blank,
+-- or text that does not begin with a blank
 pub data Rule : Type 0 where
   anyText : Rule
   noBrackets : Rule
   notBlankFirst : Rule
+  notAllBlank : Rule
+  blankOrFilled : Rule
 
 -- a number; text; a letter of a set; a group; a stretch of blanks
 pub data Col : Type 0 where
@@ -87,6 +90,19 @@ clockTime =
 
 abbrev pub clock : Col
 clock = group clockTime
+
+-- the date i4/i2/i2: year 0 to 9999, month and day as for E. Document 02, Wish 2
+abbrev pub calendarDate : Group
+calendarDate =
+    record {
+      mark = 47;
+      first = record { form = N.Integer 4; low = pos 0; high = pos 9999 };
+      second = record { form = N.Integer 2; low = pos 1; high = pos 12 };
+      third = record { form = N.Integer 2; low = pos 1; high = pos 31 };
+    }
+
+abbrev pub date : Col
+date = group calendarDate
 
 -- ---- bytes of the line, numbers of the record and text bytes of the record that a column takes
 
@@ -163,6 +179,8 @@ abbrev pub ruleBars : Rule → Bool
 ruleBars anyText = false
 ruleBars noBrackets = true
 ruleBars notBlankFirst = false
+ruleBars notAllBlank = false
+ruleBars blankOrFilled = false
 
 -- whether a column bars brackets
 abbrev pub barsOf : Col → Bool

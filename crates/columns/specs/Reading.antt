@@ -2,14 +2,14 @@
 -- each 4 at the byte's own column, or 5, 6, 7, 8 at the field's first.
 use Prim.Native.Nat.{ℕ, _+_, _-_}
 use mathlib.Core.List.{List, [], _∷_, _++_}
-use mathlib.Core.Bool.{Bool}
+use mathlib.Core.Bool.{Bool, false, not}
 use lib.IntN.{ℤ}
 use lib.ListN.{length, take, drop, getD}
 use lib.Dec.{eqb}
-use Rattle.columns.specs.Answer.{pick, Answer, ok, refusal, chain, notBlank, requiredBlank, badForm, outOfRange, wrongLetter}
-use Rattle.columns.specs.Bytes.{isNone, trim, member}
+use Rattle.columns.specs.Answer.{pick, Answer, ok, refusal, unless, chain, notBlank, requiredBlank, badForm, outOfRange, wrongLetter}
+use Rattle.columns.specs.Bytes.{isNone, trim, allBlank, member}
 use Rattle.columns.specs.Number.{fieldOf}
-use Rattle.columns.specs.Column.{Slot, missing, given, Rec, joined, allowed, Rule, anyText, noBrackets, notBlankFirst, Col, numeric, text, letter, group, blank, width}
+use Rattle.columns.specs.Column.{Slot, missing, given, Rec, joined, allowed, Rule, anyText, noBrackets, notBlankFirst, notAllBlank, blankOrFilled, Col, numeric, text, letter, group, blank, width}
 use Rattle.columns.specs.Group.{groupField, judgeGroup}
 use Rattle.columns.specs.declared.number.Field.{Field}
 use Rattle.columns.specs.declared.number.Field.the-variants as F
@@ -30,10 +30,23 @@ judge q fits at F.Bad = refusal badForm (at + 1)
 judge q fits at (F.Value v) = pick (fits v) (ok (oneNumber (given v))) (refusal outOfRange (at + 1))
 
 -- text that its rule refuses; a bracket is found with the line's barred bytes
+abbrev pub ruleRefuses : Rule → List ℕ → Bool
+ruleRefuses anyText f = false
+ruleRefuses noBrackets f = false
+ruleRefuses notBlankFirst f = eqb (getD f 0 0) 32
+ruleRefuses notAllBlank f = allBlank f
+ruleRefuses blankOrFilled f = pick (eqb (getD f 0 0) 32) (not (allBlank f)) false
+
+-- required and blank 5; form 6
+abbrev pub ruleNumber : Rule → ℕ
+ruleNumber anyText = requiredBlank
+ruleNumber noBrackets = requiredBlank
+ruleNumber notBlankFirst = requiredBlank
+ruleNumber notAllBlank = requiredBlank
+ruleNumber blankOrFilled = badForm
+
 abbrev pub judgeText : Rule → ℕ → List ℕ → Answer (List ℕ) → Answer (List ℕ)
-judgeText anyText at f o = o
-judgeText noBrackets at f o = o
-judgeText notBlankFirst at f o = pick (eqb (getD f 0 0) 32) (refusal requiredBlank (at + 1)) o
+judgeText r at f o = unless (ruleRefuses r f) (ruleNumber r) (at + 1) o
 
 abbrev pub asText : Answer (List ℕ) → Answer Rec
 asText (ok f) = ok (someText f)

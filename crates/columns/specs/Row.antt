@@ -1,5 +1,5 @@
--- What a row of a file format asks of its list of columns: whole records, a first byte that is no blank, sizes that fit. Document
--- 01, "The phase line", which the formats added later follow ("The block").
+-- What a row of a file format asks of its list of columns: whole records, lines that are neither blank nor comments, sizes that fit.
+-- Document 01, "The phase line", which the formats added later follow ("The block").
 use Prim.Native.Nat.{ℕ, _+_, _*_, _≤_, _<_}
 use mathlib.Core.List.{List, [], _∷_}
 use mathlib.Core.Bool.{Bool, true, false, _&&_}
@@ -7,7 +7,7 @@ use lib.IntN.{natAbs}
 use lib.ListN.{take, drop}
 use lib.Dec.{T, eqb, leb}
 use Rattle.columns.specs.Answer.{pick, Answer, refusal, badForm}
-use Rattle.columns.specs.Column.{Slot, missing, given, Rule, anyText, noBrackets, notBlankFirst, Col, numeric, text, letter, group, blank, slots, widths, allSlots, allTexts}
+use Rattle.columns.specs.Column.{Slot, missing, given, Rule, anyText, noBrackets, notBlankFirst, notAllBlank, blankOrFilled, Col, numeric, text, letter, group, blank, slots, widths, allSlots, allTexts}
 use Rattle.columns.specs.Writing.{writeLine}
 use Rattle.columns.specs.Table.{sizesOf, sound, Sound}
 
@@ -41,23 +41,47 @@ abbrev pub SmallSlots : List Slot → Type 0
 SmallSlots [] = Unit {0}
 SmallSlots (x ∷ ns) = SmallSlot x × SmallSlots ns
 
--- ---- a first column that may not begin with a blank. Document 01, "The phase line": so no line looks like a comment
+-- ---- a line that is read is neither blank nor a comment. Document 01, "The phase line", "The block"
 
-abbrev pub isFilledFirst : Rule → Bool
-isFilledFirst anyText = false
-isFilledFirst noBrackets = false
-isFilledFirst notBlankFirst = true
+-- a text of w bytes whose first is no blank, or whose first two are both blanks
+abbrev pub opensText : ℕ → Rule → Bool
+opensText w anyText = false
+opensText w noBrackets = false
+opensText w notBlankFirst = true
+opensText w notAllBlank = false
+opensText w blankOrFilled = leb 2 w
 
-abbrev pub mayNotBlank : Col → Bool
-mayNotBlank (numeric m q g) = false
-mayNotBlank (text w x) = isFilledFirst x
-mayNotBlank (letter s) = false
-mayNotBlank (group g) = false
-mayNotBlank (blank w) = false
+abbrev pub opens : Col → Bool
+opens (numeric m q g) = false
+opens (text w x) = opensText w x
+opens (letter s) = false
+opens (group g) = false
+opens (blank w) = false
 
-abbrev pub startsFilled : List Col → Bool
-startsFilled [] = false
-startsFilled (c ∷ cs) = mayNotBlank c
+-- the first column keeps the line from beginning with a blank and `(`
+abbrev pub opensRow : List Col → Bool
+opensRow [] = false
+opensRow (c ∷ cs) = opens c
+
+-- a column that may not be blank
+abbrev pub fillsText : Rule → Bool
+fillsText anyText = false
+fillsText noBrackets = false
+fillsText notBlankFirst = true
+fillsText notAllBlank = true
+fillsText blankOrFilled = false
+
+abbrev pub fills : Col → Bool
+fills (numeric m q g) = q
+fills (text w x) = fillsText x
+fills (letter s) = false
+fills (group g) = false
+fills (blank w) = false
+
+-- some column may not be blank
+abbrev pub someFilled : List Col → Bool
+someFilled [] = false
+someFilled (c ∷ cs) = pick (fills c) true (someFilled cs)
 
 -- ---- sizes: helping definitions about the code
 
@@ -82,16 +106,18 @@ recordRoom = 512
 abbrev pub fits : List Col → Bool
 fits cs =
     sound cs 0 0 0
-    && (startsFilled cs
+    && (opensRow cs
+    && (someFilled cs
     && (leb (sizesOf cs .width) lineRoom
     && (leb (sizesOf cs .numbers) numberRoom
     && (leb (sizesOf cs .chars) textRoom
-    && leb (1 + sizesOf cs .numbers + 8 * sizesOf cs .numbers + sizesOf cs .chars) recordRoom))))
+    && leb (1 + sizesOf cs .numbers + 8 * sizesOf cs .numbers + sizesOf cs .chars) recordRoom)))))
 
 -- what that test says
 pub record Fits (cs : List Col) : Type 0 where
   pub sound : Sound cs 0 0 0
-  pub filled : T (startsFilled cs)
+  pub opened : T (opensRow cs)
+  pub filled : T (someFilled cs)
   pub wide : widths cs ≤ lineRoom
   pub numbers : allSlots cs ≤ numberRoom
   pub chars : allTexts cs ≤ textRoom

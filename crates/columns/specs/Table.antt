@@ -9,7 +9,7 @@ use lib.ListN.{length, take, drop, getD}
 use lib.Seq.{slice}
 use lib.Dec.{T, eqb, leb, ltb}
 use Rattle.columns.specs.Answer.{pick, Answer, ok, refusal}
-use Rattle.columns.specs.Column.{Slot, missing, given, Rec, Range, asHeld, notNegative, span, Rule, anyText, noBrackets, notBlankFirst, clockTime, groupWidth, Col, numeric, text, letter, group, blank, width, slots, texts, goodCol, good, widths, allSlots, allTexts, inStretch, bracketsIn}
+use Rattle.columns.specs.Column.{Slot, missing, given, Rec, Range, asHeld, notNegative, span, Rule, anyText, noBrackets, notBlankFirst, notAllBlank, blankOrFilled, clockTime, calendarDate, groupWidth, Col, numeric, text, letter, group, blank, width, slots, texts, goodCol, good, widths, allSlots, allTexts, inStretch, bracketsIn}
 use Rattle.columns.specs.declared.number.Form.{Form}
 use Rattle.columns.specs.declared.number.Form.the-variants as N
 use Rattle.columns.specs.declared.group.Group.{Group}
@@ -36,11 +36,13 @@ rangeAt rs k =
 
 -- a text's rule by its number
 abbrev pub ruleAt : ℕ → Rule
-ruleAt k = pick (eqb k 0) anyText (pick (eqb k 1) noBrackets notBlankFirst)
+ruleAt k =
+    pick (eqb k 0) anyText
+    (pick (eqb k 1) noBrackets (pick (eqb k 2) notBlankFirst (pick (eqb k 3) notAllBlank blankOrFilled)))
 
--- a group by its number: only the clock time as yet
+-- a group by its number: 0 the clock time, else the date
 abbrev pub groupAt : ℕ → Group
-groupAt k = clockTime
+groupAt k = pick (eqb k 0) clockTime calendarDate
 
 -- a number's form: kind 0 is iW, its width W; kind 1 is fW.D, its place D
 abbrev pub formIn : Column → Form

@@ -1,4 +1,5 @@
 // A column of a table, one number a column, and the range step.
+use super::bytes::skip_blanks;
 use super::group::group_at;
 use super::group::group_width;
 use super::number::Form;
@@ -7,8 +8,10 @@ ghost use mathlib.Core.List.{List};
 ghost use Prim.Native.Nat.{_+_, _≤_, _<_};
 ghost use lib.ListN.{length, take, getD};
 ghost use lib.IntN.{pos};
+ghost use lib.Seq.{slice};
 ghost use Rattle.columns.specs.Column.{Slot, within, allowed};
-ghost use Rattle.columns.specs.Table.{columnIn, rangeAt, formIn, widthBy, slotsBy, textsBy, slotsOf};
+ghost use Rattle.columns.specs.Reading.{ruleRefuses, ruleNumber};
+ghost use Rattle.columns.specs.Table.{columnIn, rangeAt, ruleAt, formIn, widthBy, slotsBy, textsBy, slotsOf};
 
 // A row of a table is a sum: a kind; places, the decimals of a number or the place of a set's first letter; widths, the columns;
 // REQUIRED for a number that must be there; and last the range of a number, the rule of a text, the count of a set's letters
@@ -43,8 +46,14 @@ pub const NO_BRACKETS: u32 = 1;
 
 pub const NOT_BLANK_FIRST: u32 = 2;
 
+pub const NOT_ALL_BLANK: u32 = 3;
+
+pub const BLANK_OR_FILLED: u32 = 4;
+
 // The groups.
 pub const CLOCK: u32 = 0;
+
+pub const DATE: u32 = 1;
 
 // The parts of a row.
 pub struct Column {
@@ -108,6 +117,37 @@ pub fn texts_in(c: Column) -> usize
         return width_in(c);
     }
     0
+}
+
+// Whether a text's rule refuses the bytes from place `at` up to place `end`. Those that do not begin with a blank it does not.
+pub fn refuses_text(s: &[u8], at: usize, end: usize, rule: usize) -> bool
+    requires { ⌜ (at < end) × (end ≤ length (now s)) ⌝ }
+    ensures { λ r. ⌜ r ≡ ruleRefuses (ruleAt rule) (slice at end (now (s .entry))) ⌝ }
+{
+    if rule < 2 {
+        return false;
+    }
+    if s[at] != 32 {
+        return false;
+    }
+    if rule == 2 {
+        return true;
+    }
+    let start = skip_blanks(s, at, end);
+    if rule == 3 {
+        return start == end;
+    }
+    start != end
+}
+
+// The number of a text that its rule refuses.
+pub fn rule_number(rule: usize) -> u8
+    ensures { λ r. ⌜ r ≡ ruleNumber (ruleAt rule) ⌝ }
+{
+    if rule < 4 {
+        return super::REQUIRED;
+    }
+    super::FORM
 }
 
 // The form of a number's column.

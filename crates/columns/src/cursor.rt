@@ -4,6 +4,8 @@ use super::bytes::has;
 use super::bytes::skip_blanks;
 use super::column::Column;
 use super::column::allows;
+use super::column::refuses_text;
+use super::column::rule_number;
 use super::group::Group;
 use super::group::Three;
 use super::group::group_at;
@@ -149,22 +151,17 @@ impl Cursor {
         }
     }
 
-    // Text with its rule: one that must not begin with a blank, 5.
+    // Text with its rule.
     pub fn text(self, line: &[u8], width: usize, rule: usize) -> CellRead
         requires { ⌜ (self .at + width ≤ length (now line)) × ((1 ≤ width) × (self .at ≤ 4096)) ⌝ }
         ensures { λ r. ⌜ Found (readCell (text width (ruleAt rule)) [] (self .at) (slice (self .at) (self .at + width) (now (line .entry)))) r (self .at) width (slice (self .at) (self .at + width) (now (line .entry))) ⌝ }
     {
         let at = self.at;
-        let next = Cursor { at: at + width };
-        if rule < 2 {
+        let end = at + width;
+        let next = Cursor { at: end };
+        if refuses_text(line, at, end, rule) {
             return CellRead {
-                cell: Cell::Chars,
-                next,
-            };
-        }
-        if line[at] == 32 {
-            return CellRead {
-                cell: Cell::Refused(super::REQUIRED, at + 1),
+                cell: Cell::Refused(rule_number(rule), at + 1),
                 next,
             };
         }

@@ -1,4 +1,4 @@
-// A group of three numbers with marks between them, read and written: the clock time i2:i2:f6.3.
+// A group of three numbers with marks between them, read and written: the clock time i2:i2:f6.3, the date i4/i2/i2.
 use super::Outcome;
 use super::bytes::blanks;
 use super::bytes::skip_blanks;
@@ -18,7 +18,7 @@ ghost use lib.ListN.{length, getD};
 ghost use lib.Seq.{slice};
 ghost use lib.Dec.{T};
 ghost use lib.IntN.{pos};
-ghost use Rattle.columns.specs.Column.{Slot, missing, given, groupWidth, goodGroup};
+ghost use Rattle.columns.specs.Column.{Slot, missing, given, clockTime, calendarDate, groupWidth, goodGroup};
 ghost use Rattle.columns.specs.Group.{groupRange, threeOf, groupField, groupBytes, groupHolds, putGroup};
 ghost use Rattle.columns.specs.Number.{formWidth, goodForm, zeroFilled};
 ghost use Rattle.columns.specs.Table.{groupAt, slotOf, Wrote, placed};
@@ -45,9 +45,8 @@ pub struct Group {
     pub third: Part,
 }
 
-// A group by its number, the last part of its row: only the clock time as yet.
-pub fn group_at(number: usize) -> Group
-    ensures { λ r. ⌜ r ≡ groupAt number ⌝ }
+fn clock_time() -> Group
+    ensures { λ r. ⌜ r ≡ clockTime ⌝ }
 {
     Group {
         mark: 58,
@@ -67,6 +66,39 @@ pub fn group_at(number: usize) -> Group
             high: 59999,
         },
     }
+}
+
+fn calendar_date() -> Group
+    ensures { λ r. ⌜ r ≡ calendarDate ⌝ }
+{
+    Group {
+        mark: 47,
+        first: Part {
+            form: Form::Integer(4),
+            low: 0,
+            high: 9999,
+        },
+        second: Part {
+            form: Form::Integer(2),
+            low: 1,
+            high: 12,
+        },
+        third: Part {
+            form: Form::Integer(2),
+            low: 1,
+            high: 31,
+        },
+    }
+}
+
+// A group by its number, the last part of its row.
+pub fn group_at(number: usize) -> Group
+    ensures { λ r. ⌜ r ≡ groupAt number ⌝ }
+{
+    if number == 0 {
+        return clock_time();
+    }
+    calendar_date()
 }
 
 // The columns that a group takes.

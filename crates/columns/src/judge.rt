@@ -2,6 +2,7 @@
 use super::column::Column;
 use super::column::DECIMAL;
 use super::column::in_range_at;
+use super::column::refuses_text;
 use super::number::Field;
 use super::number::Plain;
 use super::number::read_any_int;
@@ -31,7 +32,7 @@ fn number_ok(field: Field, c: Column, ranges: &[i64]) -> bool
     }
 }
 
-// Text from place `at` on: not where its rule bars a blank there.
+// Text from place `at` on: not where its rule refuses it.
 fn text_ok(line: &[u8], at: usize, width: usize, rule: usize) -> bool
     requires { ⌜ (1 ≤ width) × (at + width ≤ length (now line)) ⌝ }
     ensures { λ r. ⌜ r ≡ isOk (judgeText (ruleAt rule) at (slice at (at + width) (now (line .entry))) (ok (slice at (at + width) (now (line .entry))))) ⌝ }
@@ -39,7 +40,7 @@ fn text_ok(line: &[u8], at: usize, width: usize, rule: usize) -> bool
     if rule < 2 {
         return true;
     }
-    line[at] != 32
+    !refuses_text(line, at, at + width, rule)
 }
 
 // The usual widths as constants, as in number.rt: a function with two callers would stay a call here.

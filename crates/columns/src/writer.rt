@@ -10,6 +10,8 @@ use super::column::Column;
 use super::column::allows;
 use super::column::column_in;
 use super::column::form_in;
+use super::column::refuses_text;
+use super::column::rule_number;
 use super::column::slots_in;
 use super::column::texts_in;
 use super::column::width_in;
@@ -102,13 +104,10 @@ fn put_text(out: &mut [u8], at: usize, rule: usize, s: &[u8]) -> Outcome
     requires { ⌜ (at + length (now s) ≤ 4096) × ((1 ≤ length (now s)) × (length (now out) ≡ length (now s))) ⌝ }
     ensures { λ r. ⌜ Wrote (judgeText (ruleAt rule) at (now (s .entry)) (putText (ruleBars (ruleAt rule)) at (now (s .entry)) (ok (now (s .entry))))) r (now (out .entry)) (now (out .exit)) ⌝ }
 {
-    if rule < 2 {
-        return put_plain(out, at, rule == 1, s);
+    if refuses_text(s, 0, s.len(), rule) {
+        return Outcome::Refused(rule_number(rule), at + 1);
     }
-    if s[0] == 32 {
-        return Outcome::Refused(super::REQUIRED, at + 1);
-    }
-    put_plain(out, at, false, s)
+    put_plain(out, at, rule == 1, s)
 }
 
 // A letter of those from place `from` to place `to`.

@@ -14,7 +14,7 @@ use Rattle.columns.specs.Bytes.{sameBytes}
 use Rattle.formats.specs.declared.block.Block.{Block}
 use Rattle.formats.specs.declared.block.Block.the-variants as B
 
--- first line not the header, or comment before any phase line
+-- first line not the header, or comment before any row
 abbrev pub outOfPlace : ℕ
 outOfPlace = 14
 
@@ -44,7 +44,7 @@ abbrev pub isHeader : List ℕ → List ℕ → Bool
 isHeader header l = sameBytes (trimEnd l) header
 
 -- after the header, a line of blanks only (or of no bytes) closes the block; a comment begins with a blank and `(`; every
--- other line is read as a row of the format, as a phase line in its block
+-- other line is read as a row of the format, as a phase line in a phase block
 pub data Kind : Type 0 where
   closing : Kind
   comment : Kind
@@ -70,7 +70,7 @@ readComment seen l =
 
 -- a line that was read adds to what is answered for the lines after it
 abbrev pub plus : ℕ → ℕ → ℕ → Block → Block
-plus p k u (B.Read phases comments used) = B.Read (p + phases) (k + comments) (u + used)
+plus p k u (B.Read rows comments used) = B.Read (p + rows) (k + comments) (u + used)
 plus p k u (B.Refused number column line) = B.Refused number column line
 
 -- the answer for line n: its refusal, or what is answered with the lines after it
@@ -101,7 +101,7 @@ readHeaded header read (l ∷ ls) =
 
 -- the block's last line may have no newline: no more bytes are used than there are
 abbrev pub atMost : ℕ → Block → Block
-atMost size (B.Read phases comments used) = B.Read phases comments (pick (ltb size used) size used)
+atMost size (B.Read rows comments used) = B.Read rows comments (pick (ltb size used) size used)
 atMost size (B.Refused number column line) = B.Refused number column line
 
 -- at most 65,536 bytes

@@ -14,8 +14,8 @@ use Rattle.formats.specs.declared.block.Step.the-variants as S
 
 -- a line that was judged, and the counts with it
 abbrev pub counted : Outcome → ℕ → ℕ → Step
-counted O.Done phases comments = S.Counted phases comments
-counted (O.Refused number column) phases comments = S.Refused number column
+counted O.Done rows comments = S.Counted rows comments
+counted (O.Refused number column) rows comments = S.Refused number column
 
 -- a line of a kind, after that many rows and comments
 abbrev pub stepOf : (List ℕ → Answer Rec) → Kind → ℕ → ℕ → List ℕ → Step

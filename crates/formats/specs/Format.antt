@@ -11,16 +11,21 @@ use Rattle.columns.specs.Row.{Fits}
 use Rattle.columns.specs.Table.{over}
 use Rattle.formats.specs.Row.{RowFormat}
 use Rattle.formats.specs.Phase.{phaseColumns}
-use Rattle.formats.specs.Header.{phaseHeader}
+use Rattle.formats.specs.Arrival.{arrivalColumns}
+use Rattle.formats.specs.Header.{phaseHeader, arrivalHeader}
 use Rattle.formats.specs.declared.format.Format.{Format}
 
 -- the phase line and its block
 abbrev pub phaseFormat : RowFormat
 phaseFormat = record { columns = phaseColumns; kind = 3; header = phaseHeader }
 
+-- the arrival line and its block. Document 02, Wish 2
+abbrev pub arrivalFormat : RowFormat
+arrivalFormat = record { columns = arrivalColumns; kind = 5; header = arrivalHeader }
+
 -- the other row formats, in the order of the code's table
 abbrev pub otherFormats : List RowFormat
-otherFormats = []
+otherFormats = arrivalFormat ∷ []
 
 -- ---- helping definitions about the code: where its table holds each format, and what it says of them
 

@@ -46,3 +46,38 @@ phaseWords =
 
 unfoldable pub phaseHeader : List ℕ
 phaseHeader = spacedFrom 1 phaseWords
+
+-- source document 003, "Automatic Arrival Format": 27 words
+abbrev pub arrivalWords : List (ℕ × String)
+arrivalWords =
+    (1, "Net")
+    ∷ (11, "Sta")
+    ∷ (17, "BeamID")
+    ∷ (33, "Date")
+    ∷ (44, "Time")
+    ∷ (54, "Phase")
+    ∷ (64, "Azim")
+    ∷ (70, "Slow")
+    ∷ (77, "SNR")
+    ∷ (87, "Amp")
+    ∷ (93, "Per")
+    ∷ (99, "STA")
+    ∷ (105, "Dur")
+    ∷ (109, "Author")
+    ∷ (122, "DetID")
+    ∷ (131, "Agy")
+    ∷ (137, "Deploy")
+    ∷ (146, "Ln")
+    ∷ (149, "Auth")
+    ∷ (155, "Rep")
+    ∷ (161, "PCh")
+    ∷ (165, "ACh")
+    ∷ (169, "L")
+    ∷ (173, "Lat")
+    ∷ (183, "Lon")
+    ∷ (191, "Elev")
+    ∷ (199, "Depth")
+    ∷ []
+
+unfoldable pub arrivalHeader : List ℕ
+arrivalHeader = spacedFrom 1 arrivalWords

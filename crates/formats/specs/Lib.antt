@@ -6,6 +6,7 @@ pub mod Link
 pub mod CubeRecord
 pub mod Lines
 pub mod Phase
+pub mod Arrival
 pub mod Row
 pub mod Format
 pub mod Judge

@@ -14,20 +14,20 @@ pub const NO_LINE: u8 = 0;
 
 pub const HEADER_LINE: u8 = 40;
 
-pub const PHASE_LINE: u8 = 41;
+pub const ROW_LINE: u8 = 41;
 
 pub const COMMENT_LINE: u8 = 42;
 
 pub const CLOSING_LINE: u8 = 43;
 
-// The largest number of phase lines before a line.
+// The largest number of rows before a line.
 const MOST: usize = 65534;
 
-// A line of a block: its kind; the number, from 1, of the phase line that it is or that it belongs to; its end; and the place
+// A line of a block: its kind; the number, from 1, of the row that it is or that it belongs to; its end; and the place
 // after it.
 pub struct BlockLine {
     pub kind: u8,
-    pub phase: usize,
+    pub number: usize,
     pub end: usize,
     pub next: usize,
 }
@@ -38,13 +38,13 @@ fn no_line(number: u8) -> BlockLine
 {
     BlockLine {
         kind: number,
-        phase: 0,
+        number: 0,
         end: 0,
         next: 0,
     }
 }
 
-// A line after the header, with the phase lines before it, its end and the place after it.
+// A line after the header, with the rows before it, its end and the place after it.
 fn known_line(line: &[u8], before: usize, end: usize, next: usize) -> BlockLine
     requires { ⌜ before ≤ 70000 ⌝ }
     ensures { λ r. ⌜ r ≡ known (kindOf (now (line .entry))) before end next ⌝ }
@@ -52,7 +52,7 @@ fn known_line(line: &[u8], before: usize, end: usize, next: usize) -> BlockLine
     if trimmed(line) == 0 {
         return BlockLine {
             kind: CLOSING_LINE,
-            phase: 0,
+            number: 0,
             end,
             next,
         };
@@ -60,14 +60,14 @@ fn known_line(line: &[u8], before: usize, end: usize, next: usize) -> BlockLine
     if begins_comment(line) {
         return BlockLine {
             kind: COMMENT_LINE,
-            phase: before,
+            number: before,
             end,
             next,
         };
     }
     BlockLine {
-        kind: PHASE_LINE,
-        phase: before + 1,
+        kind: ROW_LINE,
+        number: before + 1,
         end,
         next,
     }
@@ -87,7 +87,7 @@ pub fn first_line(kind: u8, block: &[u8]) -> BlockLine
             if is_header(kind, &block[start..end]) {
                 return BlockLine {
                     kind: HEADER_LINE,
-                    phase: 0,
+                    number: 0,
                     end,
                     next,
                 };
@@ -97,17 +97,17 @@ pub fn first_line(kind: u8, block: &[u8]) -> BlockLine
     }
 }
 
-// The line at a place, after some phase lines.
-fn line_after(block: &[u8], at: usize, phases: usize) -> BlockLine
-    ensures { λ r. ⌜ r ≡ lineAfter (now (block .entry)) at phases ⌝ }
+// The line at a place, after some rows.
+fn line_after(block: &[u8], at: usize, rows: usize) -> BlockLine
+    ensures { λ r. ⌜ r ≡ lineAfter (now (block .entry)) at rows ⌝ }
 {
-    if MOST < phases {
+    if MOST < rows {
         return no_line(NO_LINE);
     }
     let found = line_from(block, at);
     match found {
         Line::End => no_line(NO_LINE),
-        Line::Found(start, end, next) => known_line(&block[start..end], phases, end, next),
+        Line::Found(start, end, next) => known_line(&block[start..end], rows, end, next),
     }
 }
 
@@ -125,5 +125,5 @@ pub fn next_line(block: &[u8], before: BlockLine) -> BlockLine
     if COMMENT_LINE < met {
         return no_line(NO_LINE);
     }
-    line_after(block, before.next, before.phase)
+    line_after(block, before.next, before.number)
 }

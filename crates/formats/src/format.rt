@@ -2,8 +2,10 @@
 ghost use mathlib.Core.Path.{_≡_};
 ghost use Rattle.formats.specs.Format.{Formed};
 
-// The kind of a phase record.
+// The kinds of a phase record and of an arrival record.
 pub const PHASE: u8 = 3;
+
+pub const ARRIVAL: u8 = 5;
 
 // A row format: its record's kind; its first row in the table and how many it has; the bytes of its line, the numbers
 // and the text bytes of its record.
@@ -42,6 +44,7 @@ pub fn format_of(kind: u8) -> Format
 {
     match kind {
         // kind, first row, rows; bytes, numbers, text bytes
+        ARRIVAL => row_format(ARRIVAL, 64, 54, 203, 17, 86),
         _ => row_format(PHASE, 0, 64, 199, 18, 68),
     }
 }

@@ -1,4 +1,5 @@
 // The headers of the row formats' blocks.
+use super::format::ARRIVAL;
 use columns::bytes::copy;
 ghost use mathlib.Core.Path.{_≡_};
 ghost use Prim.Native.Nat.{_≤_};
@@ -21,6 +22,10 @@ pub fn put_header(kind: u8, out: &mut [u8; 256]) -> usize
     ensures { λ n. ⌜ HeaderPut kind n (now (out .entry)) (now (out .exit)) ⌝ }
 {
     match kind {
+        ARRIVAL => put_words(
+            out,
+            b"Net       Sta   BeamID          Date       Time      Phase     Azim  Slow   SNR       Amp   Per   STA   Dur Author       DetID    Agy   Deploy   Ln Auth  Rep   PCh ACh L   Lat       Lon     Elev    Depth",
+        ),
         _ => put_words(
             out,
             b"Sta     Dist  EvAz Phase        Time      TRes  Azim AzRes   Slow   SRes Def   SNR       Amp   Per Qual Magnitude    ArrID    Agy   Deploy   Ln Auth  Rep   PCh ACh L   Lat       Lon     Elev    Depth",

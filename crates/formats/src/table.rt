@@ -9,10 +9,13 @@ use columns::Outcome;
 use columns::column::ANY_TEXT;
 use columns::column::AS_HELD;
 use columns::column::BLANK;
+use columns::column::BLANK_OR_FILLED;
 use columns::column::CLOCK;
+use columns::column::DATE;
 use columns::column::DECIMAL;
 use columns::column::GROUP;
 use columns::column::LETTER;
+use columns::column::NOT_ALL_BLANK;
 use columns::column::NOT_BLANK_FIRST;
 use columns::column::PLACES;
 use columns::column::TEXT;
@@ -29,7 +32,7 @@ ghost use Rattle.columns.specs.Table.{slotsOf, ReadPart, Wrote};
 ghost use Rattle.formats.specs.Format.{formatOf};
 
 // The columns of every row format, one format after the other.
-const ROWS: [u32; 64] = [
+const ROWS: [u32; 118] = [
     // the phase line, specs/Phase.antt
     TEXT + 5 * WIDTH + NOT_BLANK_FIRST, // 1-5 station
     BLANK + WIDTH, // 6
@@ -95,6 +98,61 @@ const ROWS: [u32; 64] = [
     DECIMAL + 7 * WIDTH + PLACES + AS_HELD, // 186-192 elevation
     BLANK + WIDTH, // 193
     DECIMAL + 6 * WIDTH + PLACES + AS_HELD, // 194-199 instrument depth
+    // the arrival line, specs/Arrival.antt
+    TEXT + 9 * WIDTH + BLANK_OR_FILLED, // 1-9 network
+    BLANK + WIDTH, // 10
+    TEXT + 5 * WIDTH + NOT_ALL_BLANK, // 11-15 station
+    BLANK + WIDTH, // 16
+    TEXT + 12 * WIDTH + ANY_TEXT, // 17-28 beam identifier
+    BLANK + WIDTH, // 29
+    GROUP + DATE, // 30-39 date
+    BLANK + WIDTH, // 40
+    GROUP + CLOCK, // 41-52 time
+    BLANK + WIDTH, // 53
+    TEXT + 8 * WIDTH + ANY_TEXT, // 54-61 phase
+    BLANK + WIDTH, // 62
+    DECIMAL + 5 * WIDTH + PLACES + AZIMUTH, // 63-67 azimuth
+    BLANK + WIDTH, // 68
+    DECIMAL + 5 * WIDTH + PLACES + AS_HELD, // 69-73 slowness
+    BLANK + WIDTH, // 74
+    DECIMAL + 5 * WIDTH + PLACES + AS_HELD, // 75-79 signal to noise
+    BLANK + WIDTH, // 80
+    DECIMAL + 9 * WIDTH + PLACES + AS_HELD, // 81-89 amplitude
+    BLANK + WIDTH, // 90
+    DECIMAL + 5 * WIDTH + 2 * PLACES + AS_HELD, // 91-95 period
+    BLANK + WIDTH, // 96
+    DECIMAL + 5 * WIDTH + PLACES + AS_HELD, // 97-101 short-term average
+    BLANK + WIDTH, // 102
+    DECIMAL + 5 * WIDTH + PLACES + AS_HELD, // 103-107 duration
+    BLANK + WIDTH, // 108
+    TEXT + 9 * WIDTH + ANY_TEXT, // 109-117 author of the detection
+    BLANK + WIDTH, // 118
+    TEXT + 8 * WIDTH + ANY_TEXT, // 119-126 detection identifier
+    TEXT + 3 * WIDTH + ANY_TEXT, // 127-129 its extension
+    BLANK + WIDTH, // 130
+    TEXT + 5 * WIDTH + ANY_TEXT, // 131-135 agency
+    BLANK + WIDTH, // 136
+    TEXT + 8 * WIDTH + ANY_TEXT, // 137-144 deployment
+    BLANK + WIDTH, // 145
+    TEXT + 2 * WIDTH + ANY_TEXT, // 146-147 location
+    BLANK + WIDTH, // 148
+    TEXT + 5 * WIDTH + ANY_TEXT, // 149-153 author of data
+    BLANK + WIDTH, // 154
+    TEXT + 5 * WIDTH + ANY_TEXT, // 155-159 reporter of data
+    BLANK + WIDTH, // 160
+    TEXT + 3 * WIDTH + ANY_TEXT, // 161-163 phase channel
+    BLANK + WIDTH, // 164
+    TEXT + 3 * WIDTH + ANY_TEXT, // 165-167 amplitude channel
+    BLANK + WIDTH, // 168
+    TEXT + WIDTH + ANY_TEXT, // 169 long period first motion
+    BLANK + WIDTH, // 170
+    DECIMAL + 8 * WIDTH + 4 * PLACES + LATITUDE, // 171-178 latitude
+    BLANK + WIDTH, // 179
+    DECIMAL + 9 * WIDTH + 4 * PLACES + LONGITUDE, // 180-188 longitude
+    BLANK + WIDTH, // 189
+    DECIMAL + 7 * WIDTH + PLACES + AS_HELD, // 190-196 elevation
+    BLANK + WIDTH, // 197
+    DECIMAL + 6 * WIDTH + PLACES + AS_HELD, // 198-203 instrument depth
 ];
 
 // The sets of letters, one after the other.

@@ -37,9 +37,9 @@ pub record Answered (a : Answer (List ℕ)) (r : ℕ) (from to : List ℕ) : Typ
 abbrev pub lookedNumber : Looked → ℕ
 lookedNumber x = parts (x .number) 0 (x .place)
 
--- ---- the phase block
+-- ---- blocks
 
--- on 0 the phase count stands where a column does; the comment count (16 bits) and the bytes used where a length does
+-- on 0 the count of rows stands where a column does; the comment count (16 bits) and the bytes used where a length does
 abbrev pub blockRead : Block → ℕ
 blockRead b = parts (blockNumber b) (blockRows b) (blockComments b + 65536 * blockUsed b)
 
@@ -48,19 +48,19 @@ abbrev pub blockRefused : Block → ℕ
 blockRefused b = parts (blockNumber b) (blockColumn b) (blockLine b)
 
 abbrev pub blockAnswer : Block → ℕ
-blockAnswer (B.Read phases comments used) = blockRead (B.Read phases comments used)
+blockAnswer (B.Read rows comments used) = blockRead (B.Read rows comments used)
 blockAnswer (B.Refused number column line) = blockRefused (B.Refused number column line)
 
--- a line's kind; the number of its phase line where a column stands; its end (20 bits) and the place after it where a length does
+-- a line's kind; the number of its row where a column stands; its end (20 bits) and the place after it where a length does
 abbrev pub lineNumber : BlockLine → ℕ
-lineNumber x = parts (x .kind) (x .phase) (x .end + 1048576 * x .next)
+lineNumber x = parts (x .kind) (x .number) (x .end + 1048576 * x .next)
 
 -- the line that such a number tells of
 abbrev pub lineIn : ℕ → BlockLine
 lineIn n =
     record {
       kind = n % 256;
-      phase = n / 256 % 65536;
+      number = n / 256 % 65536;
       end = n / 16777216 % 1048576;
       next = n / 17592186044416;
     }

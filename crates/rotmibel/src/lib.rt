@@ -12,6 +12,7 @@ use formats::block_writer::write_header;
 use formats::block_writer::write_record;
 use formats::cube_record::read_into;
 use formats::cube_record::write_from;
+use formats::format::ARRIVAL;
 use formats::format::PHASE;
 use formats::row::read_row_into;
 use formats::row::write_row_from;
@@ -126,13 +127,13 @@ fn block_number(kind: u8, block: &[u8]) -> u64
     }
 }
 
-// The line that a number of rotmibel_block_line tells of.
+// The line that a number of a walk's call tells of.
 fn line_of(number: u64) -> BlockLine
     ensures { λ x. ⌜ x ≡ lineIn number ⌝ }
 {
     BlockLine {
         kind: (number % 256) as u8,
-        phase: (number / 256 % 65536) as usize,
+        number: (number / 256 % 65536) as usize,
         end: (number / 16777216 % 1048576) as usize,
         next: (number / 17592186044416) as usize,
     }
@@ -153,7 +154,7 @@ fn met_number(kind: u8, block: &[u8], before: u64) -> u64
     ensures { λ r. ⌜ r ≡ lineNumber (metLine (formatOf kind .header) (now (block .entry)) before) ⌝ }
 {
     let line = met_line(kind, block, before);
-    parts_of(line.kind, line.phase, line.end + 1048576 * line.next)
+    parts_of(line.kind, line.number, line.end + 1048576 * line.next)
 }
 
 // A block's header written from a place on.
@@ -218,4 +219,54 @@ pub extern "C" fn rotmibel_write_record(from: &[u8], out: &mut [u8], at: usize) 
     ensures { λ r. ⌜ AnsweredFrom at (recordCall (formatOf 3) (now (from .entry)) at (length (now (out .entry)))) r (now (out .entry)) (now (out .exit)) ⌝ }
 {
     record_number(PHASE, from, out, at)
+}
+
+// ---- the arrival line and its block
+
+// An arrival line read into a record.
+#[no_mangle]
+pub extern "C" fn rotmibel_read_arrival(line: &[u8], out: &mut [u8]) -> u64
+    ensures { λ r. ⌜ Answered (readRowInto (formatOf 5) (now (line .entry)) (length (now (out .entry)))) r (now (out .entry)) (now (out .exit)) ⌝ }
+{
+    read_row_number(ARRIVAL, line, out)
+}
+
+// An arrival line written from a record.
+#[no_mangle]
+pub extern "C" fn rotmibel_write_arrival(from: &[u8], out: &mut [u8]) -> u64
+    ensures { λ r. ⌜ Answered (writeRowFrom (formatOf 5) (now (from .entry)) (length (now (out .entry)))) r (now (out .entry)) (now (out .exit)) ⌝ }
+{
+    write_row_number(ARRIVAL, from, out)
+}
+
+// An arrival block read.
+#[no_mangle]
+pub extern "C" fn rotmibel_read_arrival_block(block: &[u8]) -> u64
+    ensures { λ r. ⌜ r ≡ blockAnswer (readBlock (formatOf 5) (now (block .entry))) ⌝ }
+{
+    block_number(ARRIVAL, block)
+}
+
+// The next line of an arrival block, after the one that the call before answered.
+#[no_mangle]
+pub extern "C" fn rotmibel_arrival_block_line(block: &[u8], before: u64) -> u64
+    ensures { λ r. ⌜ r ≡ lineNumber (metLine (formatOf 5 .header) (now (block .entry)) before) ⌝ }
+{
+    met_number(ARRIVAL, block, before)
+}
+
+// The header of an arrival block written from a place on.
+#[no_mangle]
+pub extern "C" fn rotmibel_write_arrival_header(out: &mut [u8], at: usize) -> u64
+    ensures { λ r. ⌜ AnsweredFrom at (headerCall (formatOf 5 .header) at (length (now (out .entry)))) r (now (out .entry)) (now (out .exit)) ⌝ }
+{
+    header_number(ARRIVAL, out, at)
+}
+
+// An arrival record written as a line of a block, from a place on.
+#[no_mangle]
+pub extern "C" fn rotmibel_write_arrival_record(from: &[u8], out: &mut [u8], at: usize) -> u64
+    ensures { λ r. ⌜ AnsweredFrom at (recordCall (formatOf 5) (now (from .entry)) at (length (now (out .entry)))) r (now (out .entry)) (now (out .exit)) ⌝ }
+{
+    record_number(ARRIVAL, from, out, at)
 }

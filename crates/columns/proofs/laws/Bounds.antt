@@ -14,9 +14,9 @@ use Rattle.columns.specs.declared.group.Group.{Group}
 use Rattle.columns.specs.Answer.{pick, Answer, ok, refusal, both, chain, notBlank}
 use Rattle.columns.specs.Bytes.{isNone, trim, barred, isAllowed, inside, member}
 use Rattle.columns.specs.Number.{formWidth, fieldOf, holds}
-use Rattle.columns.specs.Column.{Slot, missing, given, Rec, joined, allowed, Rule, anyText, noBrackets, notBlankFirst, ruleBars, Col, numeric, text, letter, group, blank, groupWidth, width, slots, texts, goodCol, good, widths}
+use Rattle.columns.specs.Column.{Slot, missing, given, Rec, joined, allowed, Rule, ruleBars, Col, numeric, text, letter, group, blank, groupWidth, width, slots, texts, goodCol, good, widths}
 use Rattle.columns.specs.Group.{groupField, judgeGroup, groupRange, groupHolds, putGroup}
-use Rattle.columns.specs.Reading.{nothing, judge, judgeText, asText, readCell, readColumns}
+use Rattle.columns.specs.Reading.{nothing, judge, ruleRefuses, judgeText, asText, readCell, readColumns}
 use Rattle.columns.specs.Writing.{putNumber, putText, barredIn, writeCell, writeColumns}
 use Rattle.columns.proofs.laws.Bytes.{trim-short}
 use Rattle.columns.proofs.laws.Form.{form-wide}
@@ -58,9 +58,7 @@ group-bound g seen at m T.Bad h = omega arith
 group-bound g seen at m (T.Given a b c) h = pick-bound (at + m) (groupRange g seen a b c) _ _ (omega arith) (omega arith)
 
 rule-bound : (x : Rule) (at w : ℕ) (f : List ℕ) (o : Answer (List ℕ)) → 1 ≤ w → columnOf o ≤ at + w → columnOf (judgeText x at f o) ≤ at + w
-rule-bound anyText at w f o h k = k
-rule-bound noBrackets at w f o h k = k
-rule-bound notBlankFirst at w f o h k = pick-bound (at + w) (eqb (getD f 0 0) 32) _ _ (omega arith) k
+rule-bound x at w f o h k = pick-bound (at + w) (ruleRefuses x f) _ _ (omega arith) k
 
 text-column : (x : Answer (List ℕ)) → columnOf (asText x) ≡ columnOf x
 text-column (ok f) = refl

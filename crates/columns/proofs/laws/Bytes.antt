@@ -11,7 +11,7 @@ use lib.Seq.{slice, slice-cons, slice-empty, take-nil, drop-nil, take-take, drop
 use lib.Dec.{eqb, ltb}
 use borrow.Author.Tests.{eq-eqb, ne-eqb, eqb-true, lt-leb, le-leb, ltb-true, ltb-false}
 use Rattle.columns.specs.Answer.{pick}
-use Rattle.columns.specs.Bytes.{isText, isBracket, trim, isAllowed, inside, Plain, Free, barred, member, sameBytes}
+use Rattle.columns.specs.Bytes.{isText, isBracket, isNone, trim, allBlank, isAllowed, inside, Plain, Free, barred, member, sameBytes}
 
 -- ---- a stretch of a line
 
@@ -59,6 +59,20 @@ pub trim-short : (s : List ℕ) → length (trim s) ≤ length s
 unfolding trim
 trim-short [] = omega arith
 trim-short (x ∷ s) = pick-short (eqb x 32) (trim s) (x ∷ s) _ (omega (arith, trim-short s)) (omega arith)
+
+-- nothing but blanks has no other byte
+blank-head : (b : ℕ) (s : List ℕ) → allBlank (b ∷ s) ≡ true → (b ≡ 32) × (allBlank s ≡ true)
+unfolding trim
+blank-head b s e = by-test (eqb b 32) refl e
+  where
+    by-test : (t : Bool) → eqb b 32 ≡ t → isNone (pick t (trim s) (b ∷ s)) ≡ true → (b ≡ 32) × (allBlank s ≡ true)
+    by-test true p q = (eqb-true b 32 p, q)
+    by-test false p q = let z : _≡_ {A = ℕ} 0 1 = cc in let y : ⊥ = omega arith in absurd y
+
+pub blanks-only : (f : List ℕ) (i b : ℕ) → 32 < b → allBlank f ≡ true → getD f i 0 ≡ b → ⊥
+blanks-only [] i b h e g = omega arith
+blanks-only (x ∷ s) zero b h e g = omega (arith, blank-head x s e .0)
+blanks-only (x ∷ s) (suc i) b h e g = blanks-only s i b h (blank-head x s e .1) g
 
 pub blank-turn : (l : List ℕ) (i : ℕ) → i < length l → take i l ≡ replicate i 32 → take (i + 1) (set l i 32) ≡ replicate (i + 1) 32
 blank-turn l i h e = rw (add-one, take-suc-set l i 32 h, e) (replicate-append-replicate i 1 32 ∙ rw add-one)

@@ -14,8 +14,8 @@ use Rattle.columns.specs.declared.group.Group.{Group}
 use Rattle.columns.specs.Answer.{pick, ok, refusal, barredByte, requiredBlank, outOfRange, wrongLetter, tooWide, chain, both, Answer}
 use Rattle.columns.specs.Bytes.{member}
 use Rattle.columns.specs.Number.{formWidth, goodForm, fieldOf, holds, fieldBytes}
-use Rattle.columns.specs.Column.{Slot, missing, given, Rec, Range, allowed, Rule, anyText, noBrackets, notBlankFirst, ruleBars, Col, numeric, text, letter, group, blank, width, slots, texts, goodGroup, goodCol, good, widths, allSlots, allTexts, barsOf, joined}
-use Rattle.columns.specs.Reading.{oneNumber, someText, judge, judgeText, asText, readCell, readColumns}
+use Rattle.columns.specs.Column.{Slot, missing, given, Rec, Range, allowed, Rule, ruleBars, Col, numeric, text, letter, group, blank, width, slots, texts, goodGroup, goodCol, good, widths, allSlots, allTexts, barsOf, joined}
+use Rattle.columns.specs.Reading.{oneNumber, someText, judge, ruleRefuses, ruleNumber, judgeText, asText, readCell, readColumns}
 use Rattle.columns.specs.Writing.{putNumber, barredIn, putText, writeCell, writeColumns}
 use Rattle.columns.proofs.laws.Clear.{Clear, clear-blanks, barred-clear}
 use Rattle.columns.proofs.laws.Answers.{passed, held, split}
@@ -69,10 +69,8 @@ module _ (m : Form) (q : Bool) (fits : ℤ → Bool) (at : ℕ) (o : T (goodForm
 
 -- text that its rule lets pass
 pub text-passed : (r : Rule) (at : ℕ) (f ys : List ℕ) (o : Answer (List ℕ)) → judgeText r at f o ≡ ok ys → (o ≡ ok ys) × (judgeText r at f (ok f) ≡ ok f)
-text-passed anyText at f ys o e = (e, refl)
-text-passed noBrackets at f ys o e = (e, refl)
-text-passed notBlankFirst at f ys o e =
-    let p = passed (eqb (getD f 0 0) 32) requiredBlank (at + 1) o ys e in
+text-passed r at f ys o e =
+    let p = passed (ruleRefuses r f) (ruleNumber r) (at + 1) o ys e in
     (p .1, rw (p .0))
 
 text-case : (t : Bool) (n k : ℕ) (f : List ℕ) (r : Rec) → asText (pick t (refusal n k) (ok f)) ≡ ok r → (someText f ≡ r) × (pick t (refusal n k) (ok f) ≡ ok f)
@@ -80,9 +78,7 @@ text-case true n k f r e = let z : _≡_ {A = ℕ} 0 1 = cc in let y : ⊥ = ome
 text-case false n k f r e = (cc, refl)
 
 pub text-read : (x : Rule) (at : ℕ) (f : List ℕ) (r : Rec) → asText (judgeText x at f (ok f)) ≡ ok r → (someText f ≡ r) × (judgeText x at f (ok f) ≡ ok f)
-text-read anyText at f r e = (cc, refl)
-text-read noBrackets at f r e = (cc, refl)
-text-read notBlankFirst at f r e = text-case (eqb (getD f 0 0) 32) requiredBlank (at + 1) f r e
+text-read x at f r e = text-case (ruleRefuses x f) (ruleNumber x) (at + 1) f r e
 
 module _ (seen : List Slot) (at : ℕ) (ns : List Slot) (t ys : List ℕ) where
   number-written : (m : Form) (q : Bool) (g : Range) → T (goodForm m) → length ns ≡ 1 → length t ≡ 0 → writeCell (numeric m q g) seen at ns t ≡ ok ys → Written (numeric m q g) seen at ns t ys

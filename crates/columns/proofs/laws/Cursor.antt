@@ -1,11 +1,11 @@
 -- What the cursor finds in one column, as the code comes to it.
-use mathlib.Core.Path.{_≡_, refl, _∙_}
-use mathlib.Core.Bool.{Bool, true, false, false≢true}
+use mathlib.Core.Path.{_≡_, refl, sym, _∙_}
+use mathlib.Core.Bool.{Bool, true, false}
 use mathlib.Core.List.{List, []}
 use Prim.Native.Nat.{ℕ, _+_, _-_, _≤_, _<_}
 use native.Mathlib.Omega.{arith}
 use lib.ListN.{length, take, getD}
-use borrow.Author.Tests.{ne-eqb, eq-eqb, eqb-false}
+use borrow.Author.Tests.{ne-eqb, eq-eqb}
 use lib.Dec.{eqb}
 use lib.Seq.{slice, length-slice, getD-drop, getD-take}
 use Rattle.columns.specs.declared.group.Three.{Three}
@@ -13,13 +13,12 @@ use Rattle.columns.specs.declared.group.Group.{Group}
 use Rattle.columns.specs.declared.number.Form.{Form}
 use Rattle.columns.specs.declared.number.Field.{Field}
 use Rattle.columns.specs.declared.cursor.CellRead.{CellRead}
-use Rattle.columns.specs.Answer.{pick, Answer, ok, refusal, notBlank, requiredBlank, wrongLetter}
+use Rattle.columns.specs.Answer.{pick, Answer, ok, refusal, notBlank, wrongLetter}
 use Rattle.columns.specs.Bytes.{isNone, trim, allBlank, member}
 use Rattle.columns.specs.Number.{formWidth, fieldOf}
-use Rattle.columns.specs.Column.{Slot, Rec, Range, allowed, Rule, anyText, noBrackets, notBlankFirst, Col, numeric, text, letter, group, blank, width, firstWidth, secondStart, secondEnd, thirdStart, groupWidth}
+use Rattle.columns.specs.Column.{Slot, Rec, Range, allowed, Rule, Col, numeric, text, letter, group, blank, width, firstWidth, secondStart, secondEnd, thirdStart, groupWidth}
 use Rattle.columns.specs.Group.{threeOf, groupField, judgeGroup}
-use Rattle.columns.specs.Reading.{nothing, someText, judge, readCell}
-use Rattle.columns.specs.Table.{ruleAt}
+use Rattle.columns.specs.Reading.{nothing, someText, judge, ruleRefuses, ruleNumber, readCell}
 use Rattle.columns.specs.Cell.{Found}
 use Rattle.columns.proofs.laws.Bytes.{part-none, part-cons, slice-drop, slice-take}
 use Rattle.columns.specs.declared.group.Three.the-variants as K
@@ -27,7 +26,7 @@ use Rattle.columns.specs.declared.group.Three.the-variants as K
 pub part-at : (l : List ℕ) (at e i : ℕ) → at + i < e → getD (slice at e l) i 0 ≡ getD l (at + i) 0
 part-at l at e i h = getD-drop at (take e l) i 0 ∙ getD-take e l (at + i) 0 h
 
-first-at : (l : List ℕ) (at e : ℕ) → at < e → getD (slice at e l) 0 0 ≡ getD l at 0
+pub first-at : (l : List ℕ) (at e : ℕ) → at < e → getD (slice at e l) 0 0 ≡ getD l at 0
 first-at l at e h = let z : at + 0 ≡ at = omega arith in part-at l at e 0 (omega arith) ∙ rw z
 
 -- ---- nothing but blanks
@@ -65,24 +64,14 @@ module _ (g : Group) (l : List ℕ) (at : ℕ) where
 -- ---- the answer of each kind of column
 
 module _ (seen : List Slot) (l : List ℕ) (at : ℕ) where
-  module _ (w k : ℕ) where
-    low-rule : (a b : Bool) → (a ≡ false → b ≡ true) → ok (someText (slice at (at + w) l)) ≡ readCell (text w (pick a anyText (pick b noBrackets notBlankFirst))) seen at (slice at (at + w) l)
+  module _ (w : ℕ) (x : Rule) (f : List ℕ) (told : Bool) (g : told ≡ ruleRefuses x f) where
+    pub text-refused : told ≡ true → refusal (ruleNumber x) (at + 1) ≡ readCell (text w x) seen at f
     unfolding readCell
-    low-rule true b f = refl
-    low-rule false true f = refl
-    low-rule false false f = absurd (false≢true (f refl))
+    text-refused e = rw (sym g ∙ e)
 
-    pub text-any : k < 2 → ok (someText (slice at (at + w) l)) ≡ readCell (text w (ruleAt k)) seen at (slice at (at + w) l)
-    text-any h = low-rule (eqb k 0) (eqb k 1) (λ e. eq-eqb k 1 (omega (arith, eqb-false k 0 e)))
-
-    module _ (h : 1 ≤ w) (g : 2 ≤ k) where
-      pub text-blank : getD l at 0 ≡ 32 → refusal requiredBlank (at + 1) ≡ readCell (text w (ruleAt k)) seen at (slice at (at + w) l)
-      unfolding readCell
-      text-blank p = rw (ne-eqb k 0 (λ q. omega arith), ne-eqb k 1 (λ q. omega arith), first-at l at (at + w) (omega arith), p)
-
-      pub text-there : (getD l at 0 ≡ 32 → ⊥) → ok (someText (slice at (at + w) l)) ≡ readCell (text w (ruleAt k)) seen at (slice at (at + w) l)
-      unfolding readCell
-      text-there p = rw (ne-eqb k 0 (λ q. omega arith), ne-eqb k 1 (λ q. omega arith), first-at l at (at + w) (omega arith), ne-eqb _ _ p)
+    pub text-there : told ≡ false → ok (someText f) ≡ readCell (text w x) seen at f
+    unfolding readCell
+    text-there e = rw (sym g ∙ e)
 
   module _ (s : List ℕ) where
     pub letter-known : member (getD l at 0) s ≡ true → ok (someText (slice at (at + 1) l)) ≡ readCell (letter s) seen at (slice at (at + 1) l)

@@ -12,10 +12,10 @@ use borrow.Author.Tests.{ne-eqb, eqb-true, eqb-false}
 use Rattle.columns.specs.declared.number.Field.{Field}
 use Rattle.columns.specs.declared.number.Form.{Form}
 use Rattle.columns.specs.declared.column.Column.{Column}
-use Rattle.columns.specs.Answer.{pick, Answer, ok, refusal, isOk, both, chain, requiredBlank}
+use Rattle.columns.specs.Answer.{pick, Answer, ok, refusal, isOk, both, chain}
 use Rattle.columns.specs.Number.{fieldOf}
-use Rattle.columns.specs.Column.{Slot, Rec, joined, Range, allowed, Rule, anyText, noBrackets, notBlankFirst, Col, numeric, text, width, goodCol, good, widths}
-use Rattle.columns.specs.Reading.{judge, judgeText, asText, readCell, readColumns}
+use Rattle.columns.specs.Column.{Slot, Rec, joined, Range, allowed, Rule, Col, numeric, text, width, goodCol, good, widths}
+use Rattle.columns.specs.Reading.{judge, ruleRefuses, ruleNumber, judgeText, asText, readCell, readColumns}
 use Rattle.columns.specs.Table.{columnIn, colOf, ruleAt, columnsOf}
 use Rattle.columns.specs.Judge.{simpleCol, simple, Judged, Judgeable}
 use Rattle.columns.proofs.laws.Table.{columns-more, columns-none, col-integer, col-decimal, col-text, col-letter, col-group, col-blank}
@@ -41,9 +41,7 @@ text-pick true n k m j f = refl
 text-pick false n k m j f = refl
 
 text-case : (u : Rule) (at k : ℕ) (f : List ℕ) → isOk (judgeText u at f (ok f)) ≡ isOk (asText (judgeText u k f (ok f)))
-text-case anyText at k f = refl
-text-case noBrackets at k f = refl
-text-case notBlankFirst at k f = text-pick (eqb (getD f 0 0) 32) _ _ _ _ f
+text-case u at k f = text-pick (ruleRefuses u f) _ _ _ _ f
 
 pub text-judged : (c : Col) (w : ℕ) (u : Rule) (at : ℕ) (f : List ℕ) (r : Bool) → c ≡ text w u → r ≡ isOk (judgeText u at f (ok f)) → Judged c f r
 unfolding readCell
@@ -55,9 +53,8 @@ any-rule zero at f h = refl
 any-rule (suc zero) at f h = refl
 any-rule (suc (suc k)) at f h = let y : ⊥ = omega arith in absurd y
 
-pub first-rule : (k at : ℕ) (f : List ℕ) → 2 ≤ k → not (eqb (getD f 0 0) 32) ≡ isOk (judgeText (ruleAt k) at f (ok f))
-first-rule k at f h =
-    rw (ne-eqb k 0 (λ e. omega arith), ne-eqb k 1 (λ e. omega arith)) (ok-unless (eqb (getD f 0 0) 32) f requiredBlank (at + 1))
+pub told-rule : (k at : ℕ) (f : List ℕ) (t : Bool) → t ≡ ruleRefuses (ruleAt k) f → not t ≡ isOk (judgeText (ruleAt k) at f (ok f))
+told-rule k at f t e = rw e (ok-unless (ruleRefuses (ruleAt k) f) f (ruleNumber (ruleAt k)) (at + 1))
 
 -- the kind of an integer is 0, that of a text 2
 module _ (c : Column) (rs : List ℤ) (ls : List ℕ) (s : T (simpleCol (colOf c rs ls))) (n : c .kind ≡ 0 → ⊥) where

@@ -1,30 +1,33 @@
--- Laws of a row's list of columns: what is read or written is whole and small, and does not begin with a blank.
+-- Laws of a row's list of columns: what is read or written is whole and small, no comment and not blank.
 use mathlib.Core.Path.{_≡_, refl, sym, ap, _∙_}
-use mathlib.Core.Bool.{Bool, true, false, _&&_}
+use mathlib.Core.Bool.{Bool, true, false, not, _&&_}
 use mathlib.Core.List.{List, [], _∷_, _++_}
 use Prim.Native.Nat.{ℕ, zero, suc, _+_, _-_, _*_, _^_, _≤_, _<_}
 use native.Mathlib.Omega.{arith}
 use native.Mathlib.Numerals.{add-one}
 use lib.IntN.{ℤ, pos, negsuc, natAbs}
-use lib.ListN.{length, take, drop, getD, length-drop, drop-of-length-le, take-append-drop}
-use lib.Seq.{length-take-le, drop-cons, drop-drop}
+use lib.ListN.{length, take, drop, getD, replicate, length-drop, length-replicate, getD-replicate, replicate-append-replicate, drop-of-length-le, take-append-drop}
+use lib.Seq.{length-take-le, drop-cons, drop-drop, getD-take, take-at, drop-at}
 use lib.Dec.{T, leb, ltb, eqb, leb→le}
 use borrow.Author.Tests.{ltb-true, ltb-false, le-ltb, eq-eqb, ne-eqb}
 use Rattle.columns.specs.Answer.{pick, ok, refusal, requiredBlank, badForm, outOfRange, tooWide, tooShort}
 use Rattle.columns.specs.declared.number.Form.{Form}
 use Rattle.columns.specs.declared.group.Group.{Group}
-use Rattle.columns.specs.Number.{goodForm, holds, holdsInt, holdsDec, fieldBytes}
-use Rattle.columns.specs.Column.{Slot, missing, given, Rec, joined, allowed, Rule, anyText, noBrackets, notBlankFirst, Col, numeric, text, letter, group, blank, width, slots, texts, goodGroup, goodCol, good, widths, allSlots}
+use Rattle.columns.specs.Bytes.{allBlank}
+use Rattle.columns.specs.Number.{formWidth, goodForm, fieldOf, holds, holdsInt, holdsDec, fieldBytes}
+use Rattle.columns.specs.Column.{Slot, missing, given, Rec, joined, allowed, Rule, anyText, noBrackets, notBlankFirst, notAllBlank, blankOrFilled, Col, numeric, text, letter, group, blank, width, slots, texts, goodGroup, goodCol, good, widths, allSlots}
 use Rattle.columns.specs.Group.{groupHolds, groupRange, groupBytes, putGroup}
-use Rattle.columns.specs.Reading.{judgeText, asText, readCell, readColumns}
+use Rattle.columns.specs.Reading.{judge, ruleRefuses, ruleNumber, judgeText, asText, readCell, readColumns}
 use Rattle.columns.specs.Writing.{putNumber, writeCell, writeColumns, writeLine}
 use Rattle.columns.specs.Table.{flagsOf, columnIn, colOf, columnsOf, sizesOf, sound, slotsBy}
 use Rattle.columns.specs.declared.column.Column.{Column}
-use Rattle.columns.specs.Row.{allSame, alike, whole, writeWhole, SmallSlot, SmallSlots, isFilledFirst, mayNotBlank, startsFilled, fits, Fits}
-use Rattle.columns.proofs.laws.Tests.{T-and, both-true}
+use Rattle.columns.specs.Row.{allSame, alike, whole, writeWhole, SmallSlot, SmallSlots, opensText, opens, opensRow, fillsText, fills, someFilled, fits, Fits}
+use Rattle.columns.proofs.laws.Tests.{T-and, both-true, not-not}
 use Rattle.columns.proofs.laws.Answers.{split, chained, passed, held}
 use Rattle.columns.proofs.laws.GroupBack.{three-of, fine, part-form}
-use Rattle.columns.proofs.laws.Form.{good-int, good-dec}
+use Rattle.columns.proofs.laws.Form.{form-blank, good-int, good-dec}
+use Rattle.columns.proofs.laws.Bytes.{blanks-only}
+use Rattle.columns.proofs.laws.NumberBack.{trim-blanks}
 use Rattle.columns.proofs.laws.Columns.{text-read}
 use Rattle.columns.proofs.laws.Written.{power-le}
 use Rattle.columns.proofs.laws.Bounds.{columnOf, pick-bound, write-bound}
@@ -36,14 +39,16 @@ use Rattle.columns.specs.declared.number.Form.the-variants as N
 pub fits-of : (cs : List Col) → T (fits cs) → Fits cs
 fits-of cs t =
     let a = T-and (sound cs 0 0 0) _ t in
-    let b = T-and (startsFilled cs) _ (a .1) in
-    let c = T-and (leb (sizesOf cs .width) 256) _ (b .1) in
+    let b = T-and (opensRow cs) _ (a .1) in
+    let g = T-and (someFilled cs) _ (b .1) in
+    let c = T-and (leb (sizesOf cs .width) 256) _ (g .1) in
     let d = T-and (leb (sizesOf cs .numbers) 40) _ (c .1) in
     let e = T-and (leb (sizesOf cs .chars) 160) _ (d .1) in
     let s = sound-of cs 0 0 0 (a .0) in
     record {
       sound = s;
-      filled = b .0;
+      opened = b .0;
+      filled = g .0;
       wide = omega (arith, leb→le (sizesOf cs .width) 256 (c .0));
       numbers = omega (arith, leb→le (sizesOf cs .numbers) 40 (d .0));
       chars = omega (arith, leb→le (sizesOf cs .chars) 160 (e .0));
@@ -137,32 +142,87 @@ written-whole (c ∷ cs) seen at ns t ys g n e =
       small = rw take-append-drop at (small-append (take (slots c) ns) (drop (slots c) ns) (x .small) (y .small));
     }
 
--- ---- a line that is read does not begin with a blank
+-- ---- a line that is read is no comment: it does not begin with a blank and `(`
 
-first-of : (w : ℕ) (line : List ℕ) → 1 ≤ w → getD (take w line) 0 0 ≡ getD line 0 0
-first-of zero line h = absurd (omega arith)
-first-of (suc w) [] h = refl
-first-of (suc w) (b ∷ line) h = refl
+module _ (x : Rule) (at w : ℕ) (line : List ℕ) (r : Rec) (h : 1 ≤ w) (e : asText (judgeText x at (take w line) (ok (take w line))) ≡ ok r) where
+  -- what its rule says of a text that was read
+  ruled : ruleRefuses x (take w line) ≡ false
+  ruled = passed (ruleRefuses x (take w line)) (ruleNumber x) (at + 1) (ok (take w line)) (take w line) (text-read x at (take w line) r e .1) .0
 
-text-filled : (x : Rule) (at : ℕ) (f : List ℕ) (r : Rec) → T (isFilledFirst x) → asText (judgeText x at f (ok f)) ≡ ok r → eqb (getD f 0 0) 32 ≡ false
-text-filled anyText at f r h e = absurd h
-text-filled noBrackets at f r h e = absurd h
-text-filled notBlankFirst at f r h e = passed (eqb (getD f 0 0) 32) requiredBlank (at + 1) (ok f) f (text-read notBlankFirst at f r e .1) .0
+  first-byte : getD line 0 0 ≡ 32 → getD (take w line) 0 0 ≡ 32
+  first-byte p = getD-take w line 0 0 h ∙ p
 
-cell-filled : (c : Col) (seen : List Slot) (at : ℕ) (line : List ℕ) (r : Rec) → T (goodCol c) → T (mayNotBlank c) → readCell c seen at (take (width c) line) ≡ ok r → eqb (getD line 0 0) 32 ≡ false
+text-opened : (x : Rule) (at w : ℕ) (line : List ℕ) (r : Rec) → 1 ≤ w → T (opensText w x) → asText (judgeText x at (take w line) (ok (take w line))) ≡ ok r → getD line 0 0 ≡ 32 → getD line 1 0 ≡ 40 → ⊥
+text-opened anyText at w line r h o e p q = absurd o
+text-opened noBrackets at w line r h o e p q = absurd o
+text-opened notAllBlank at w line r h o e p q = absurd o
+text-opened notBlankFirst at w line r h o e p q =
+    let z : eqb 32 32 ≡ false = rw (first-byte notBlankFirst at w line r h e p) at (ruled notBlankFirst at w line r h e) in
+    let y : _≡_ {A = ℕ} 0 1 = cc in omega arith
+text-opened blankOrFilled at w line r h o e p q =
+    let z : not (allBlank (take w line)) ≡ false = rw (first-byte blankOrFilled at w line r h e p) at (ruled blankOrFilled at w line r h e) in
+    blanks-only (take w line) 1 40 (omega arith) (not-not (allBlank (take w line)) z) (getD-take w line 1 0 (leb→le 2 w o) ∙ q)
+
+cell-opened : (c : Col) (seen : List Slot) (at : ℕ) (line : List ℕ) (r : Rec) → T (goodCol c) → T (opens c) → readCell c seen at (take (width c) line) ≡ ok r → getD line 0 0 ≡ 32 → getD line 1 0 ≡ 40 → ⊥
 unfolding readCell
-cell-filled (text w x) seen at line r g f e = rw (first-of w line (leb→le 1 w g)) at (text-filled x at (take w line) r f e)
-cell-filled (numeric m q g) seen at line r o f e = absurd f
-cell-filled (letter s) seen at line r g f e = absurd f
-cell-filled (group g) seen at line r o f e = absurd f
-cell-filled (blank w) seen at line r g f e = absurd f
+cell-opened (text w x) seen at line r g o e = text-opened x at w line r (leb→le 1 w g) o e
+cell-opened (numeric m q g) seen at line r f o e = absurd o
+cell-opened (letter s) seen at line r g o e = absurd o
+cell-opened (group g) seen at line r f o e = absurd o
+cell-opened (blank w) seen at line r g o e = absurd o
 
-pub read-filled : (cs : List Col) (seen : List Slot) (at : ℕ) (line : List ℕ) (r : Rec) → T (good cs) → T (startsFilled cs) → readColumns cs seen at line ≡ ok r → eqb (getD line 0 0) 32 ≡ false
+pub read-opened : (cs : List Col) (seen : List Slot) (at : ℕ) (line : List ℕ) (r : Rec) → T (good cs) → T (opensRow cs) → readColumns cs seen at line ≡ ok r → getD line 0 0 ≡ 32 → getD line 1 0 ≡ 40 → ⊥
 unfolding good readColumns
-read-filled [] seen at line r g f e = absurd f
-read-filled (c ∷ cs) seen at line r g f e =
+read-opened [] seen at line r g o e = absurd o
+read-opened (c ∷ cs) seen at line r g o e =
     let s = chained joined (readCell c seen at (take (width c) line)) (λ z. readColumns cs (seen ++ z .numbers) (at + width c) (drop (width c) line)) r e in
-    cell-filled c seen at line (s .a) (T-and (goodCol c) (good cs) g .0) f (s .first)
+    cell-opened c seen at line (s .a) (T-and (goodCol c) (good cs) g .0) o (s .first)
+
+-- ---- a line that is read is not blank
+
+no-answer : {A : Type 0} (n k : ℕ) (x : A) → refusal n k ≡ ok x → ⊥
+no-answer n k x e = let z : _≡_ {A = ℕ} 0 1 = cc in omega arith
+
+blank-required : (m : Form) (fit : ℤ → Bool) (at : ℕ) (q : Bool) (r : Rec) → T q → judge q fit at (fieldOf m (replicate (formWidth m) 32)) ≡ ok r → ⊥
+blank-required m fit at true r t e = no-answer requiredBlank (at + 1) r (rw (form-blank m) at e)
+blank-required m fit at false r t e = absurd t
+
+blank-refused : (x : Rule) (w : ℕ) → 1 ≤ w → T (fillsText x) → ruleRefuses x (replicate w 32) ≡ true
+blank-refused anyText w h f = absurd f
+blank-refused noBrackets w h f = absurd f
+blank-refused notBlankFirst w h f = rw (getD-replicate {A = ℕ} w 0 32 0 h)
+blank-refused notAllBlank w h f = rw (trim-blanks w)
+blank-refused blankOrFilled w h f = absurd f
+
+cell-fills : (c : Col) (seen : List Slot) (at : ℕ) (r : Rec) → T (goodCol c) → T (fills c) → readCell c seen at (replicate (width c) 32) ≡ ok r → ⊥
+unfolding readCell
+cell-fills (numeric m q g) seen at r o f e = blank-required m (allowed g seen) at q r f e
+cell-fills (text w x) seen at r o f e = no-answer (ruleNumber x) (at + 1) r (rw (blank-refused x w (leb→le 1 w o) f) at e)
+cell-fills (letter s) seen at r o f e = absurd f
+cell-fills (group g) seen at r o f e = absurd f
+cell-fills (blank w) seen at r o f e = absurd f
+
+-- a column that is read blank is not the one
+rest-filled : (c : Col) (cs : List Col) (seen : List Slot) (at : ℕ) (f : List ℕ) (r : Rec) → T (goodCol c) → T (pick (fills c) true (someFilled cs)) → f ≡ replicate (width c) 32 → readCell c seen at f ≡ ok r → T (someFilled cs)
+rest-filled c cs seen at f r o t b e = by-column (fills c) refl t
+  where
+    by-column : (q : Bool) → fills c ≡ q → T (pick q true (someFilled cs)) → T (someFilled cs)
+    by-column true p h = absurd (cell-fills c seen at r o (rw p tt) (rw b at e))
+    by-column false p h = h
+
+pub read-fills : (cs : List Col) (seen : List Slot) (at : ℕ) (line : List ℕ) (r : Rec) → T (good cs) → T (someFilled cs) → line ≡ replicate (widths cs) 32 → readColumns cs seen at line ≡ ok r → ⊥
+unfolding good widths readColumns
+read-fills [] seen at line r g f b e = absurd f
+read-fills (c ∷ cs) seen at line r g f b e =
+    let w = width c in
+    let x : List ℕ = replicate w 32 in
+    let y : List ℕ = replicate (widths cs) 32 in
+    let d : line ≡ x ++ y = b ∙ sym (replicate-append-replicate w (widths cs) 32) in
+    let o = T-and (goodCol c) (good cs) g in
+    let s = chained joined (readCell c seen at (take w line)) (λ z. readColumns cs (seen ++ z .numbers) (at + w) (drop w line)) r e in
+    read-fills cs (seen ++ s .a .numbers) (at + w) (drop w line) (s .b) (o .1)
+    (rest-filled c cs seen at (take w line) (s .a) (o .0) f (ap (take w) d ∙ take-at x y w (length-replicate w 32)) (s .first))
+    (ap (drop w) d ∙ drop-at x y w (length-replicate w 32)) (s .second)
 
 -- ---- the loops that test it
 
@@ -270,14 +330,14 @@ module _ (cs : List Col) (ns : List Slot) (t : List ℕ) (room : ℕ) where
   unfolding writeLine
   line-bound g = pick-bound (widths cs) (ltb room (widths cs)) _ _ (omega arith) (omega (arith, write-bound cs [] 0 ns t g))
 
-column-wide : (c : Col) → T (goodCol c) → T (mayNotBlank c) → 1 ≤ width c
+column-wide : (c : Col) → T (goodCol c) → T (opens c) → 1 ≤ width c
 column-wide (text w x) g f = leb→le 1 w g
 column-wide (numeric m q r) g f = absurd f
 column-wide (letter s) g f = absurd f
 column-wide (group g) o f = absurd f
 column-wide (blank w) g f = absurd f
 
-pub filled-wide : (cs : List Col) → T (good cs) → T (startsFilled cs) → 1 ≤ widths cs
+pub row-wide : (cs : List Col) → T (good cs) → T (opensRow cs) → 1 ≤ widths cs
 unfolding good widths
-filled-wide [] g f = absurd f
-filled-wide (c ∷ cs) g f = omega (arith, column-wide c (T-and (goodCol c) (good cs) g .0) f)
+row-wide [] g f = absurd f
+row-wide (c ∷ cs) g f = omega (arith, column-wide c (T-and (goodCol c) (good cs) g .0) f)

@@ -14,7 +14,7 @@ use Rattle.columns.specs.declared.number.Form.{Form}
 use Rattle.columns.specs.declared.group.Group.{Group}
 use Rattle.columns.specs.Answer.{pick}
 use Rattle.columns.specs.Number.{formWidth, goodForm}
-use Rattle.columns.specs.Column.{Slot, missing, given, Range, Rule, Col, numeric, text, letter, group, blank, width, slots, texts, goodGroup, goodCol, good, widths, allSlots, allTexts, inStretch, bracketsIn}
+use Rattle.columns.specs.Column.{Slot, missing, given, Range, Rule, clockTime, calendarDate, Col, numeric, text, letter, group, blank, width, slots, texts, goodGroup, goodCol, good, widths, allSlots, allTexts, inStretch, bracketsIn}
 use Rattle.columns.specs.Table.{columnIn, rangeAt, ruleAt, groupAt, formIn, colOf, columnsOf, sizesOf, sound, Sound, widthBy, slotsBy, textsBy, slotOf, slotsOf, flagOf, valueOf, flagsOf, valuesOf, over, Table}
 use Rattle.columns.proofs.laws.Tests.{T-and, and-T}
 use Rattle.columns.specs.declared.number.Form.the-variants as N
@@ -62,7 +62,11 @@ good-of-group g c e o = rw e at o
 
 -- every group of the table is well-formed
 pub group-good : (k : ℕ) → T (goodGroup (groupAt k))
-group-good k = tt
+group-good k = by-number (eqb k 0)
+  where
+    by-number : (t : Bool) → T (goodGroup (pick t clockTime calendarDate))
+    by-number true = tt
+    by-number false = tt
 
 pub data Kind (k : ℕ) : Type 0 where
   is-number : k < 2 → Kind k

@@ -1,6 +1,6 @@
 -- Laws of tests joined by `&&`.
 use mathlib.Core.Path.{_≡_, refl}
-use mathlib.Core.Bool.{Bool, true, false, _&&_}
+use mathlib.Core.Bool.{Bool, true, false, not, _&&_}
 use Prim.Native.Nat.{ℕ}
 use native.Mathlib.Omega.{arith}
 use lib.Dec.{T}
@@ -24,3 +24,7 @@ both-true false t e = let z : _≡_ {A = ℕ} 0 1 = cc in let y : ⊥ = omega ar
 pub and-false : (t : Bool) → t && false ≡ false
 and-false true = refl
 and-false false = refl
+
+pub not-not : (t : Bool) → not t ≡ false → t ≡ true
+not-not true e = refl
+not-not false e = let z : _≡_ {A = ℕ} 0 1 = cc in let y : ⊥ = omega arith in absurd y

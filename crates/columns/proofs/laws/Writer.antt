@@ -1,28 +1,29 @@
 -- Laws of the table's writer: one column as the code comes to it, and the turns of its loop.
 use mathlib.Core.Path.{_≡_, refl, sym, ap, _∙_}
-use mathlib.Core.Bool.{Bool, true, false, false≢true}
+use mathlib.Core.Bool.{Bool, true, false}
 use mathlib.Core.List.{List, [], _∷_, _++_, append-assoc, append-nil}
 use Prim.Native.Nat.{ℕ, _+_, _-_, _≤_, _<_}
 use native.Mathlib.Omega.{arith}
 use lib.ListN.{length, take, drop, getD, replicate, length-append, length-drop, length-replicate}
 use lib.Dec.{eqb, T}
 use lib.IntN.{ℤ}
-use borrow.Author.Tests.{le-ltb, lt-ltb, ne-eqb, eq-eqb, eqb-true, eqb-false}
-use lib.Seq.{length-take-le, drop-drop, take-add, drop-cons, getD-take, getD-drop}
+use borrow.Author.Tests.{le-ltb, lt-ltb, ne-eqb}
+use lib.Seq.{slice, take-all, length-take-le, drop-drop, take-add, drop-cons, getD-take, getD-drop}
 use borrow.Rule.Slice.PartMut.{midOf, putMid, mid-len, put-same}
 use Rattle.columns.specs.declared.Outcome.{Outcome}
 use Rattle.columns.specs.declared.column.Column.{Column}
 use Rattle.columns.specs.declared.number.Form.{Form}
-use Rattle.columns.specs.Answer.{pick, Answer, ok, refusal, both, requiredBlank, wrongLetter, tooShort}
+use Rattle.columns.specs.Answer.{pick, Answer, ok, refusal, both, wrongLetter, tooShort}
 use Rattle.columns.specs.Bytes.{member}
-use Rattle.columns.specs.Column.{Slot, missing, Range, allowed, Rule, anyText, noBrackets, notBlankFirst, ruleBars, Col, numeric, text, letter, blank, width, slots, texts, good, widths, allSlots, allTexts}
+use Rattle.columns.specs.Column.{Slot, missing, Range, allowed, Rule, ruleBars, Col, numeric, text, letter, blank, width, slots, texts, good, widths, allSlots, allTexts}
 use Rattle.columns.specs.Group.{putGroup}
-use Rattle.columns.specs.Reading.{judgeText}
+use Rattle.columns.specs.Reading.{ruleRefuses, ruleNumber, judgeText}
 use Rattle.columns.specs.Writing.{putNumber, putText, writeCell, writeColumns, writeLine, writePart}
 use Rattle.columns.specs.Table.{columnIn, ruleAt, groupAt, colOf, columnsOf, over, outcomeOf, Wrote, WrotePart, Ready, Table, placed}
 use Rattle.columns.proofs.laws.Table.{Kind, kind-of, is-number, is-text, is-letter, is-group, is-blank, col-text, col-letter, col-group, col-blank, number-col, char-col, columns-more, columns-none, table-good, table-fits, table-low, table-numbers, table-chars, table-line, table-next}
 use Rattle.columns.proofs.laws.Answers.{split, over-whole, refused-of, done-of, wrote-refused, wrote-same, wrote-bytes, wrote-whole}
 use Rattle.columns.proofs.laws.Places.{placed-none, placed-length, placed-placed, placed-take, part-placed}
+use Rattle.columns.proofs.laws.Rules.{rule-bars}
 use Rattle.columns.proofs.laws.Columns.{cell-written, columns-size}
 use Rattle.columns.specs.declared.Outcome.the-variants as O
 
@@ -46,22 +47,15 @@ module _ (seen : List Slot) (at : ℕ) (ns : List Slot) (t : List ℕ) (c : Col)
   cell-blank w e = rw e
 
 -- text by the number of its rule, as the code comes to it
-module _ (k at : ℕ) (t : List ℕ) where
-  low-rule : (a b : Bool) → (a ≡ false → b ≡ true) → (b ≡ true → a ≡ false) → putText b at t (ok t) ≡ judgeText (pick a anyText (pick b noBrackets notBlankFirst)) at t (putText (ruleBars (pick a anyText (pick b noBrackets notBlankFirst))) at t (ok t))
-  low-rule true true f g = absurd (false≢true (sym (g refl)))
-  low-rule true false f g = refl
-  low-rule false true f g = refl
-  low-rule false false f g = absurd (false≢true (f refl))
+module _ (k at n : ℕ) (t : List ℕ) (told : Bool) (g : told ≡ ruleRefuses (ruleAt k) (slice 0 n t)) (h : n ≡ length t) where
+  told-of : ruleRefuses (ruleAt k) t ≡ told
+  told-of = sym (g ∙ ap (ruleRefuses (ruleAt k)) (take-all n t (omega arith)))
 
-  pub rule-low : k < 2 → putText (eqb k 1) at t (ok t) ≡ judgeText (ruleAt k) at t (putText (ruleBars (ruleAt k)) at t (ok t))
-  rule-low h = low-rule (eqb k 0) (eqb k 1) (λ e. eq-eqb k 1 (omega (arith, eqb-false k 0 e))) (λ e. ne-eqb k 0 (λ q. omega (arith, eqb-true k 1 e)))
+  pub rule-refused : told ≡ true → judgeText (ruleAt k) at t (putText (ruleBars (ruleAt k)) at t (ok t)) ≡ refusal (ruleNumber (ruleAt k)) (at + 1)
+  rule-refused e = rw (told-of ∙ e)
 
-  module _ (h : 2 ≤ k) where
-    pub rule-blank : getD t 0 0 ≡ 32 → judgeText (ruleAt k) at t (putText (ruleBars (ruleAt k)) at t (ok t)) ≡ refusal requiredBlank (at + 1)
-    rule-blank e = rw (ne-eqb k 0 (λ q. omega arith), ne-eqb k 1 (λ q. omega arith), e)
-
-    pub rule-there : (getD t 0 0 ≡ 32 → ⊥) → putText false at t (ok t) ≡ judgeText (ruleAt k) at t (putText (ruleBars (ruleAt k)) at t (ok t))
-    rule-there n = rw (ne-eqb k 0 (λ q. omega arith), ne-eqb k 1 (λ q. omega arith), ne-eqb _ _ n)
+  pub rule-there : told ≡ false → putText (eqb k 1) at t (ok t) ≡ judgeText (ruleAt k) at t (putText (ruleBars (ruleAt k)) at t (ok t))
+  rule-there e = rw (told-of ∙ e, rule-bars k)
 
 -- ---- a column at its places of the record
 

@@ -144,12 +144,12 @@ module _ (header : List ℕ) (read : List ℕ → Answer Rec) where
   pub record Reading (b : List ℕ) (from at line p k : ℕ) : Type 0 where
     pub inside : at ≤ length b
     pub lines : line ≤ at + 2
-    pub phases : p ≤ at
+    pub rows : p ≤ at
     pub comments : k ≤ at
     pub same : atMost (length b) (plus 0 0 from (readLines read 2 false (linesOf (drop from b)))) ≡ atMost (length b) (plus p k at (readLines read line (ltb 0 p) (linesOf (drop at b))))
 
   pub reading-start : (b : List ℕ) (from : ℕ) → from ≤ length b → Reading b from from 2 0 0
-  reading-start b from h = record { inside = h; lines = omega arith; phases = omega arith; comments = omega arith; same = refl }
+  reading-start b from h = record { inside = h; lines = omega arith; rows = omega arith; comments = omega arith; same = refl }
 
   counted-low : {A : Type 0} (a : Answer A) (p k q j : ℕ) → counted (outcomeOf a) p k ≡ S.Counted q j → (q ≡ p) × (j ≡ k)
   counted-low (ok x) p k q j h = (cc, cc)
@@ -186,12 +186,12 @@ module _ (header : List ℕ) (read : List ℕ → Answer Rec) where
             let w = next-after f in
             let v = step-low (kindOf (lineOf b at)) p k (lineOf b at) q j (step-here s e ∙ h) in
             let a = r .lines in
-            let c = r .phases in
+            let c = r .rows in
             let d = r .comments in
             record {
               inside = w .1;
               lines = omega (arith, a, w .0);
-              phases = omega (arith, c, v .0, w .0);
+              rows = omega (arith, c, v .0, w .0);
               comments = omega (arith, d, v .1, w .0);
               same =
                   r .same ∙ turn b at (f .inside) line p k (S.Counted q j) (step-here s e ∙ h)

@@ -53,7 +53,7 @@ comment-bound seen l = elim (lt-or-le 1024 (length l)) [ inl p ↦ rw (lt-ltb 10
         (pick-bound 1024 (differs (lastByte (trimEnd l)) 41) _ _ (omega arith) (pick-bound 1024 seen _ _ (omega arith) (omega arith)))
 
 pub record SmallRead (p k u : ℕ) : Type 0 where
-  pub phases : p < 65536
+  pub rows : p < 65536
   pub comments : k < 65536
   pub used : u ≤ 65536
 
@@ -91,7 +91,7 @@ module _ (header : List ℕ) (read : List ℕ → Answer Rec) (low : (l : List �
   -- ---- the whole block
 
   small-whole : (b : List ℕ) (m : ℕ) → length b ≤ 65536 → m < 65536 → (x : Block) → Within 65538 m x → Small (atMost (length b) x)
-  small-whole b m h k (B.Read p q u) w = record { phases = omega (arith, k, w); comments = omega (arith, k, w); used = by-size (lt-or-le (length b) u) }
+  small-whole b m h k (B.Read p q u) w = record { rows = omega (arith, k, w); comments = omega (arith, k, w); used = by-size (lt-or-le (length b) u) }
     where
       by-size : (length b < u) ⊎ (u ≤ length b) → pick (ltb (length b) u) (length b) u ≤ 65536
       by-size (inl g) = rw (lt-ltb (length b) u g) h
@@ -126,17 +126,17 @@ block-small F f b = small-block (F .header) _ (λ l. omega (arith, row-bound (F 
 
 pub record SmallLine (x : BlockLine) : Type 0 where
   pub kind : x .kind < 256
-  pub phase : x .phase < 65536
+  pub number : x .number < 65536
   pub end : x .end ≤ 65536
   pub next : x .next ≤ 65536
 
 small-nothing : (n : ℕ) → n < 256 → SmallLine (nothing n)
-small-nothing n h = record { kind = h; phase = omega arith; end = omega arith; next = omega arith }
+small-nothing n h = record { kind = h; number = omega arith; end = omega arith; next = omega arith }
 
 small-known : (κ : Kind) (n e x : ℕ) → n ≤ 65534 → e ≤ 65536 → x ≤ 65536 → SmallLine (known κ n e x)
-small-known closing n e x h i j = record { kind = omega arith; phase = omega arith; end = i; next = j }
-small-known comment n e x h i j = record { kind = omega arith; phase = omega (arith, h); end = i; next = j }
-small-known row n e x h i j = record { kind = omega arith; phase = omega (arith, h); end = i; next = j }
+small-known closing n e x h i j = record { kind = omega arith; number = omega arith; end = i; next = j }
+small-known comment n e x h i j = record { kind = omega arith; number = omega (arith, h); end = i; next = j }
+small-known row n e x h i j = record { kind = omega arith; number = omega (arith, h); end = i; next = j }
 
 module _ (b : List ℕ) (low : length b ≤ 65536) (at : ℕ) (h : at < length b) where
   end-low : lineEnd b at ≤ 65536
@@ -148,8 +148,8 @@ module _ (b : List ℕ) (low : length b ≤ 65536) (at : ℕ) (h : at < length b
 small-headed : (header b : List ℕ) → length b ≤ 65536 → 0 < length b → SmallLine (headed header b)
 small-headed header b low h = by-header (isHeader header (lineOf b 0))
   where
-    by-header : (t : Bool) → SmallLine (pick t (record { kind = headerLine; phase = 0; end = lineEnd b 0; next = nextOf b 0 }) (nothing outOfPlace))
-    by-header true = record { kind = omega arith; phase = omega arith; end = end-low b low 0 h; next = after-low b low 0 h }
+    by-header : (t : Bool) → SmallLine (pick t (record { kind = headerLine; number = 0; end = lineEnd b 0; next = nextOf b 0 }) (nothing outOfPlace))
+    by-header true = record { kind = omega arith; number = omega arith; end = end-low b low 0 h; next = after-low b low 0 h }
     by-header false = small-nothing outOfPlace (omega arith)
 
 pub first-small : (header b : List ℕ) → SmallLine (firstLine header b)
@@ -181,7 +181,7 @@ next-small b x = elim (lt-or-le 65536 (length b)) [
   | inl p ↦ rw (lt-ltb 65536 (length b) p) (small-nothing wrongLength (omega arith))
   | inr low ↦
       rw (le-ltb 65536 (length b) low)
-      (small-pick (ltb (x .kind) headerLine) _ _ (small-nothing noLine (omega arith)) (small-pick (ltb commentLine (x .kind)) _ _ (small-nothing noLine (omega arith)) (small-after b low (x .next) (x .phase))))
+      (small-pick (ltb (x .kind) headerLine) _ _ (small-nothing noLine (omega arith)) (small-pick (ltb commentLine (x .kind)) _ _ (small-nothing noLine (omega arith)) (small-after b low (x .next) (x .number))))
 ]
 
 -- ---- a call of the block writer

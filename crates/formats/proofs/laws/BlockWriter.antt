@@ -9,7 +9,7 @@ use borrow.Author.Tests.{lt-ltb, le-ltb}
 use borrow.Rule.Slice.PartMut.{midOf, putMid, put-same, mid-len, same-len-mid}
 use Rattle.columns.specs.Answer.{Answer, ok, refusal, tooShort}
 use Rattle.columns.specs.Row.{Fits}
-use Rattle.columns.proofs.laws.Row.{filled-wide}
+use Rattle.columns.proofs.laws.Row.{row-wide}
 use Rattle.columns.specs.Table.{over, placed, laid}
 use Rattle.formats.specs.declared.Reply.{Reply}
 use Rattle.formats.specs.Record.{replyOf, Replied}
@@ -130,7 +130,7 @@ refused-past at (refusal n k) r out to f w s = record { answer = w .answer; byte
 
 module _ (F : RowFormat) (f : Fits (F .columns)) where
   no-room : (from ys : List ℕ) → writeRowFrom F from 0 ≡ ok ys → ⊥
-  no-room from ys e = omega (arith, row-written F f from ys 0 e .fits, filled-wide (F .columns) (f .sound .fine) (f .filled))
+  no-room from ys e = omega (arith, row-written F f from ys 0 e .fits, row-wide (F .columns) (f .sound .fine) (f .opened))
 
   pub record-past : (from : List ℕ) (at : ℕ) (r : Reply) (out to : List ℕ) → length out ≤ at → Replied (writeRowFrom F from 0) r (midOf 0 0 out) to → length to ≡ 0 → RepliedFrom at (recordCall F from at (length out)) r out (putMid 0 0 out to)
   unfolding recordCall

@@ -6,11 +6,11 @@ use mathlib.Core.List.{List, [], _∷_, _++_, append-assoc}
 use Prim.Native.Nat.{ℕ, suc, _+_, _-_, _*_, _≤_}
 use native.Mathlib.Nat.{mul-suc}
 use native.Mathlib.Omega.{arith}
-use lib.ListN.{length, take, drop, getD, length-append}
+use lib.ListN.{length, take, drop, getD, replicate, length-append}
 use lib.Seq.{take-at, drop-at, length-take-le}
 use lib.Dec.{eqb, ltb}
-use borrow.Author.Tests.{ne-eqb, ltb-false, le-ltb}
-use Rattle.columns.specs.Answer.{Answer, ok, refusal, tooShort}
+use borrow.Author.Tests.{ne-eqb, eqb-true, ltb-false, le-ltb}
+use Rattle.columns.specs.Answer.{pick, Answer, ok, refusal, tooShort}
 use Rattle.columns.specs.Bytes.{isAllowed, isNone}
 use Rattle.columns.specs.Column.{Rec, widths}
 use Rattle.columns.specs.Row.{Fits}
@@ -18,13 +18,13 @@ use Rattle.columns.specs.Table.{placed}
 use Rattle.columns.proofs.laws.Answers.{passed}
 use Rattle.columns.proofs.laws.Clear.{Clear, none, more}
 use Rattle.columns.proofs.laws.Places.{placed-none, placed-split, placed-length, placed-placed}
-use Rattle.columns.proofs.laws.Row.{filled-wide}
+use Rattle.columns.proofs.laws.Row.{row-wide}
 use Rattle.formats.specs.Lines.{onFirst, linesOf}
 use Rattle.formats.specs.Row.{RowFormat, readRow, writeRowFrom}
-use Rattle.formats.specs.Block.{beforeTrimmed, trimEnd, row, kindOf, readLines, readHeaded, readBlockBy, readBlock}
+use Rattle.formats.specs.Block.{beforeTrimmed, trimEnd, row, beginsComment, kindOf, readLines, readHeaded, readBlockBy, readBlock}
 use Rattle.formats.specs.BlockWriting.{ended, writeHeader, roomFrom, headerCall, recordCall, RepliedFrom, RecordCalls, noCalls, call, BlockCalls, written, ReadBack, noLines, line, WrittenBlock}
 use Rattle.formats.proofs.laws.Format.{HeaderFine}
-use Rattle.formats.proofs.laws.Row.{row-text, row-filled, row-nonempty}
+use Rattle.formats.proofs.laws.Row.{row-text, row-opened, row-some}
 use Rattle.formats.proofs.laws.RowRecordBack.{row-written}
 use Rattle.formats.specs.declared.Reply.the-variants as R
 use Rattle.formats.specs.declared.block.Block.the-variants as B
@@ -44,17 +44,37 @@ unfolding linesOf onFirst
 line-ended s none = refl
 line-ended s (more {b} e p) = rw (ne-eqb b 10 (text-byte b e), line-ended s p)
 
--- ---- a line whose first byte is not blank is no comment and does not close the block
+-- ---- a line that is not blank and does not begin with a blank and `(` is a row: document 01, "The phase line", "The block"
 
-some-left : (b : ℕ) (s : List ℕ) → eqb b 32 ≡ false → isNone (beforeTrimmed b s) ≡ false
-some-left b [] e = rw e
-some-left b (x ∷ s) e = refl
+left-none : (b : ℕ) (s : List ℕ) → isNone (beforeTrimmed b s) ≡ true → (b ≡ 32) × (isNone s ≡ true)
+left-none b [] e = (by-test (eqb b 32) refl e, refl)
+  where
+    by-test : (t : Bool) → eqb b 32 ≡ t → isNone (pick t [] (b ∷ [])) ≡ true → b ≡ 32
+    by-test true p q = eqb-true b 32 p
+    by-test false p q = let z : _≡_ {A = ℕ} 0 1 = cc in absurd (omega arith)
+left-none b (x ∷ s) e = let z : _≡_ {A = ℕ} 0 1 = cc in absurd (omega arith)
 
--- document 01, "The phase line": column 1 must not be blank, so no phase line looks like a comment
-pub filled-kind : (l : List ℕ) → 1 ≤ length l → eqb (getD l 0 0) 32 ≡ false → kindOf l ≡ row
+none-left : (l : List ℕ) → isNone (trimEnd l) ≡ true → l ≡ replicate (length l) 32
 unfolding trimEnd
-filled-kind [] n e = absurd (omega arith)
-filled-kind (b ∷ s) n e = rw (some-left b (trimEnd s) e, e)
+none-left [] e = refl
+none-left (b ∷ s) e =
+    let p = left-none b (trimEnd s) e in
+    rw (p .0) (ap (λ (x : List ℕ). 32 ∷ x) (none-left s (p .1)))
+
+pub row-kind-of : (l : List ℕ) → (l ≡ replicate (length l) 32 → ⊥) → (getD l 0 0 ≡ 32 → getD l 1 0 ≡ 40 → ⊥) → kindOf l ≡ row
+row-kind-of l n o = by-left (isNone (trimEnd l)) refl
+  where
+    by-second : (t : Bool) → eqb (getD l 1 0) 40 ≡ t → getD l 0 0 ≡ 32 → t ≡ false
+    by-second true p q = absurd (o q (eqb-true (getD l 1 0) 40 p))
+    by-second false p q = refl
+
+    by-first : (t : Bool) → eqb (getD l 0 0) 32 ≡ t → pick t (eqb (getD l 1 0) 40) false ≡ false
+    by-first true p = by-second (eqb (getD l 1 0) 40) refl (eqb-true (getD l 0 0) 32 p)
+    by-first false p = refl
+
+    by-left : (t : Bool) → isNone (trimEnd l) ≡ t → kindOf l ≡ row
+    by-left true p = absurd (n (none-left l p))
+    by-left false p = let b : beginsComment l ≡ false = by-first (eqb (getD l 0 0) 32) refl in rw (p, b)
 
 -- ---- a header and lines after it that are read, where a line that is read is text and, by its kind, a row: no comment, and not blank
 
@@ -157,7 +177,7 @@ module _ {a : Answer (List ℕ)} {at next : ℕ} {out mid : List ℕ} (c : Calle
 
 module _ (F : RowFormat) (f : Fits (F .columns)) where
   pub row-kind : (l : List ℕ) (m : Rec) → readRow (F .columns) l ≡ ok m → kindOf l ≡ row
-  row-kind l m e = filled-kind l (row-nonempty (F .columns) f l m e) (row-filled (F .columns) f l m e)
+  row-kind l m e = row-kind-of l (row-some (F .columns) f l m e) (row-opened (F .columns) f l m e)
 
   back-read : {rs ls : List (List ℕ)} → ReadBack F rs ls → AllRead (readRow (F .columns)) ls
   back-read noLines = noneRead
@@ -180,7 +200,7 @@ module _ (F : RowFormat) (f : Fits (F .columns)) where
       let room = roomFrom at (length out) in
       let c = called (writeRowFrom F r room) at next out mid w in
       let p = row-written F f r (c .line) room (c .is) in
-      let k : at + (length (c .line) + 1) ≤ length out = omega (arith, p .fits, p .size, filled-wide (F .columns) (f .sound .fine) (f .filled)) in
+      let k : at + (length (c .line) + 1) ≤ length out = omega (arith, p .fits, p .size, row-wide (F .columns) (f .sound .fine) (f .opened)) in
       let q = records-laid (next-in c k) ws in
       let m : (widths (F .columns) + 1) * suc (length rs) ≡ (widths (F .columns) + 1) * length rs + (widths (F .columns) + 1) = mul-suc (widths (F .columns) + 1) (length rs) in
       record {

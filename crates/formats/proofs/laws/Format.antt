@@ -5,7 +5,7 @@ use mathlib.Core.List.{List, [], _∷_, _++_, append-assoc}
 use Prim.Native.Nat.{ℕ, _+_, _-_, _≤_, _<_}
 use native.Mathlib.Omega.{arith}
 use lib.Dec.{T, leb, ltb, eqb, leb→le, lit≤}
-use borrow.Author.Tests.{ltb-true}
+use borrow.Author.Tests.{ltb-true, ne-eqb}
 use lib.Seq.{take-all}
 use lib.IntN.{ℤ}
 use lib.ListN.{length, drop, getD, length-append}
@@ -23,10 +23,10 @@ use Rattle.columns.proofs.laws.Table.{columns-among}
 use Rattle.columns.proofs.laws.Row.{fits-of}
 use Rattle.formats.specs.Block.{trimEnd, isHeader}
 use Rattle.formats.specs.Words.{bytesOf}
-use Rattle.formats.specs.Header.{spacedFrom, phaseHeader}
+use Rattle.formats.specs.Header.{spacedFrom, phaseHeader, arrivalHeader}
 use Rattle.formats.specs.Phase.{phaseColumns}
 use Rattle.formats.specs.Row.{RowFormat}
-use Rattle.formats.specs.Format.{phaseFormat, otherFormats, allColumns, tableColumns, Place, placeAt, placeIn, placeOf, formatOf, firstRow, HeaderPut, Formed}
+use Rattle.formats.specs.Format.{phaseFormat, arrivalFormat, otherFormats, allColumns, tableColumns, Place, placeAt, placeIn, placeOf, formatOf, firstRow, HeaderPut, Formed}
 use Rattle.formats.specs.declared.format.Format.{Format}
 use Rattle.formats.proofs.laws.BlockLine.{trim-other}
 
@@ -79,7 +79,7 @@ place-known kind first (F ∷ Fs) p t =
 
 -- each format is tested by computing, here alone
 format-known : (kind : ℕ) → Known (formatOf kind)
-unfolding formatOf phaseHeader spacedFrom bytesOf
+unfolding formatOf phaseHeader arrivalHeader spacedFrom bytesOf
 format-known kind = place-known kind (length phaseColumns) otherFormats tt tt
 
 pub format-fits : (kind : ℕ) → Fits (formatOf kind .columns)
@@ -96,6 +96,13 @@ named (F ∷ Fs) = formatOf (F .kind) ∷ named Fs
 pub kinds-name : named (phaseFormat ∷ otherFormats) ≡ phaseFormat ∷ otherFormats
 unfolding formatOf
 kinds-name = refl
+
+-- the places of the formats, by what the code knows of a kind
+pub arrival-place : (kind : ℕ) → kind ≡ 5 → placeOf kind ≡ placeAt arrivalFormat (length phaseColumns)
+arrival-place kind e = rw e
+
+pub phase-place : (kind : ℕ) → (kind ≡ 5 → ⊥) → placeOf kind ≡ placeAt phaseFormat 0
+phase-place kind n = rw (ne-eqb kind 5 n)
 
 -- ---- a format and a header as the code gives them for a kind
 

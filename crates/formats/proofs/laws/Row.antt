@@ -6,10 +6,10 @@ use mathlib.Core.Logic.{inl, inr}
 use mathlib.Core.List.{List, [], _∷_, _++_, append-assoc}
 use Prim.Native.Nat.{ℕ, _+_, _-_, _≤_, _<_}
 use native.Mathlib.Omega.{arith}
-use lib.ListN.{length, take, drop, getD, replicate, length-append, length-drop, length-replicate, getD-replicate, replicate-append-replicate}
-use lib.Seq.{take-at, drop-append-le}
+use lib.ListN.{length, take, drop, getD, replicate, length-append, length-drop, length-replicate, replicate-append-replicate}
+use lib.Seq.{take-at, drop-at, drop-append-le}
 use lib.IntN.{ℤ}
-use lib.Dec.{ltb, eqb}
+use lib.Dec.{ltb}
 use borrow.Author.Tests.{le-ltb, lt-ltb, ltb-false, le-leb, lt-leb}
 use Rattle.columns.specs.Answer.{ok, refusal, barredByte, unless, differs, wrongLength}
 use Rattle.columns.specs.Column.{Slot, Rec, Col, widths, allSlots, allTexts}
@@ -23,7 +23,7 @@ use Rattle.columns.proofs.laws.Clear.{Clear, clear-blanks, clear-drop, clear-no
 use Rattle.columns.proofs.laws.Columns.{Line, columns-back}
 use Rattle.columns.proofs.laws.Accepted.{columns-accepted}
 use Rattle.columns.proofs.laws.Reader.{Whole, read-whole, part-read}
-use Rattle.columns.proofs.laws.Row.{WholeRecord, written-whole, read-filled, filled-wide, line-there, line-passed}
+use Rattle.columns.proofs.laws.Row.{WholeRecord, written-whole, read-opened, read-fills, line-there, line-passed}
 use Rattle.columns.proofs.laws.Stretch.{clean-line, line-clean, barred-after}
 use Rattle.formats.specs.Row.{lowestBarredByte, blankFilled, readRow, rowPart, writeRow}
 use Rattle.formats.specs.Format.{formatOf, Formed}
@@ -51,6 +51,15 @@ filled-clear : (w : ℕ) (l : List ℕ) → lowestBarredByte l ≡ 0 → lowestB
 filled-clear w l e =
     barred-after 0 0 1 l (drop (length l) (replicate w 32)) (omega arith) e
     ∙ clear-none 0 0 false (1 + length l) (λ i p q. let z : 0 ≤ i = omega arith in let g : 0 < i = omega arith in rw (le-leb 0 i z, lt-leb i 0 g)) (clear-drop (length l) (replicate w 32) (clear-blanks false w))
+
+-- blanks are filled with blanks
+blanks-filled : (w n : ℕ) (l : List ℕ) → l ≡ replicate n 32 → n ≤ w → blankFilled w l ≡ replicate w 32
+blanks-filled w n l e h =
+    let z : n + (w - n) ≡ w = omega arith in
+    let a : List ℕ = replicate n 32 in
+    let b : List ℕ = replicate (w - n) 32 in
+    let s : replicate w 32 ≡ a ++ b = sym (replicate-append-replicate n (w - n) 32 ∙ rw z) in
+    rw (e, s, drop-at a b (length a) refl)
 
 -- ---- what a line that was read has passed
 
@@ -126,27 +135,24 @@ module _ (cs : List Col) (f : Fits cs) where
           kept = written-whole cs [] 0 (m .numbers) (m .chars) (x .bytes) (f .sound .fine) (x .numbers) (x .written);
         }
 
-    -- its bytes are text, and the first is not blank
+    -- its bytes are text
     pub row-text : Clear false l
     row-text = barred-clear false 0 l (row-passed cs l m e .clear)
 
-    -- nor is it empty, as blanks would fill it
-    pub row-nonempty : 1 ≤ length l
-    row-nonempty = by-line l (row-passed cs l m e)
+    -- it does not begin with a blank and `(`
+    pub row-opened : getD l 0 0 ≡ 32 → getD l 1 0 ≡ 40 → ⊥
+    row-opened = by-line l (row-passed cs l m e)
       where
-        by-line : (s : List ℕ) → PassedRow cs s m → 1 ≤ length s
-        by-line [] p =
-            let g : getD {A = ℕ} (replicate (widths cs) 32) 0 0 ≡ 32 = getD-replicate (widths cs) 0 32 0 (filled-wide cs (f .sound .fine) (f .filled)) in
-            let z : eqb 32 32 ≡ false = rw g at (read-filled cs [] 0 (blankFilled (widths cs) []) m (f .sound .fine) (f .filled) (p .read)) in
-            let y : _≡_ {A = ℕ} 0 1 = cc in absurd (omega arith)
-        by-line (x ∷ s) p = omega arith
+        by-line : (s : List ℕ) → PassedRow cs s m → getD s 0 0 ≡ 32 → getD s 1 0 ≡ 40 → ⊥
+        by-line [] p a b = omega arith
+        by-line (x ∷ []) p a b = omega arith
+        by-line (x ∷ y ∷ s) p a b = read-opened cs [] 0 (blankFilled (widths cs) (x ∷ y ∷ s)) m (f .sound .fine) (f .opened) (p .read) a b
 
-    pub row-filled : eqb (getD l 0 0) 32 ≡ false
-    row-filled = by-line l (row-passed cs l m e)
-      where
-        by-line : (s : List ℕ) → PassedRow cs s m → eqb (getD s 0 0) 32 ≡ false
-        by-line [] p = refl
-        by-line (b ∷ s) p = read-filled cs [] 0 (blankFilled (widths cs) (b ∷ s)) m (f .sound .fine) (f .filled) (p .read)
+    -- and is not blank, as blanks would fill it
+    pub row-some : l ≡ replicate (length l) 32 → ⊥
+    row-some b =
+        let p = row-passed cs l m e in
+        read-fills cs [] 0 (blankFilled (widths cs) l) m (f .sound .fine) (f .filled) (blanks-filled (widths cs) (length l) l b (p .short)) (p .read)
 
   -- ---- the column of a refusal
 

@@ -31,7 +31,7 @@ parts-of-requires c κs =
     let w = read-number (readBlock (formatOf (c .before .before .before .before .before .args .kind)) b) _ _ _ (sym (c .before .before .before .read-block .ensures) ∙ c .before .outcome .given .1) (block-small (formatOf (c .before .before .before .before .before .args .kind)) (format-fits (c .before .before .before .before .before .args .kind)) b) in
     let u = w .used in
     let k = w .comments in
-    (w .phases, omega (arith, u, k))
+    (w .rows, omega (arith, u, k))
 
 parts-of-requires-2 : tie.Need-parts-of-requires-2
 parts-of-requires-2 c κs =

@@ -89,14 +89,14 @@ next-part r n h = omega arith
 line-back : (x : BlockLine) → SmallLine x → lineIn (lineNumber x) ≡ x
 line-back x s =
     let e : x .end < 1048576 = omega (arith, s .end) in
-    let a : lineNumber x ≡ x .kind + 256 * (x .phase + 65536 * (x .end + 1048576 * x .next)) = omega arith in
-    let b : lineNumber x ≡ (x .kind + 256 * x .phase) + 16777216 * (x .end + 1048576 * x .next) = omega arith in
-    let c : lineNumber x ≡ (x .kind + 256 * x .phase + 16777216 * x .end) + 17592186044416 * x .next = omega arith in
-    let kind : lineNumber x % 256 ≡ x .kind = rw a (low-part (x .kind) (x .phase + 65536 * (x .end + 1048576 * x .next)) (s .kind)) in
-    let phase : lineNumber x / 256 % 65536 ≡ x .phase = rw (a, high-part (x .kind) (x .phase + 65536 * (x .end + 1048576 * x .next)) (s .kind)) (middle-part (x .phase) (x .end + 1048576 * x .next) (s .phase)) in
-    let end : lineNumber x / 16777216 % 1048576 ≡ x .end = rw (b, above-part (x .kind + 256 * x .phase) (x .end + 1048576 * x .next) (omega (arith, s .kind, s .phase))) (end-part (x .end) (x .next) e) in
-    let next : lineNumber x / 17592186044416 ≡ x .next = rw (c, next-part (x .kind + 256 * x .phase + 16777216 * x .end) (x .next) (omega (arith, s .kind, s .phase, e))) in
-    rw (kind, phase, end, next)
+    let a : lineNumber x ≡ x .kind + 256 * (x .number + 65536 * (x .end + 1048576 * x .next)) = omega arith in
+    let b : lineNumber x ≡ (x .kind + 256 * x .number) + 16777216 * (x .end + 1048576 * x .next) = omega arith in
+    let c : lineNumber x ≡ (x .kind + 256 * x .number + 16777216 * x .end) + 17592186044416 * x .next = omega arith in
+    let kind : lineNumber x % 256 ≡ x .kind = rw a (low-part (x .kind) (x .number + 65536 * (x .end + 1048576 * x .next)) (s .kind)) in
+    let number : lineNumber x / 256 % 65536 ≡ x .number = rw (a, high-part (x .kind) (x .number + 65536 * (x .end + 1048576 * x .next)) (s .kind)) (middle-part (x .number) (x .end + 1048576 * x .next) (s .number)) in
+    let end : lineNumber x / 16777216 % 1048576 ≡ x .end = rw (b, above-part (x .kind + 256 * x .number) (x .end + 1048576 * x .next) (omega (arith, s .kind, s .number))) (end-part (x .end) (x .next) e) in
+    let next : lineNumber x / 17592186044416 ≡ x .next = rw (c, next-part (x .kind + 256 * x .number + 16777216 * x .end) (x .next) (omega (arith, s .kind, s .number, e))) in
+    rw (kind, number, end, next)
 
 -- so a walk by the numbers is the walk of the block
 pub handed-back : (header b : List ℕ) (x : BlockLine) → SmallLine x → 1 ≤ x .kind → metLine header b (lineNumber x) ≡ nextLine b x

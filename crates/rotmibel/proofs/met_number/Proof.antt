@@ -25,7 +25,7 @@ parts-of-requires c κs =
     let w = line-number (c .before .before .met-line .result) _ (c .before .before .met-line .ensures) (met-small (formatOf (c .before .before .before .before .args .kind) .header) (c .before .before .before .before .args .block .now) (c .before .before .before .before .args .before)) in
     let n = w .next in
     let e = w .end in
-    (w .phase, omega (arith, n, e))
+    (w .number, omega (arith, n, e))
 
 returns : tie.Need-returns
 returns c = c .parts-of .ensures ∙ ap lineNumber (c .before .before .before .met-line .ensures)

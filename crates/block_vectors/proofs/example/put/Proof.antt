@@ -1,11 +1,12 @@
 use borrow.Author.Needs.{needs}
-use Prim.Native.Nat.{_≤_, _-_, _+_}
+use mathlib.Core.Path.{_≡_}
+use Prim.Native.Nat.{_≤_, _-_}
 use lib.ListN.{length}
 use Rattle.block_vectors.proofs.example.put.Statement.{statement}
 use Rattle.block_vectors.proofs.example.put.Tie as tie
 
 abbrev Inv-loop : tie.InvT-loop
-Inv-loop block₀ at bytes i₀ block i = (i ≤ length bytes) × (at + i ≤ 4055)
+Inv-loop block₀ at bytes i₀ block i = (i ≤ length bytes) × (length block ≡ length block₀)
 
 abbrev μ-loop : tie.MeasureT-loop
 μ-loop block₀ at bytes i₀ block i = length bytes - i
@@ -16,6 +17,8 @@ put-spec =
     (tie.spec
     Inv-loop
     μ-loop
+    (λ c. search needs)
+    (λ c. search needs)
     (λ c. search needs)
     (λ c. search needs)
     (λ c. search needs)

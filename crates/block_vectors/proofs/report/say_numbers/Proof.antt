@@ -4,10 +4,10 @@ use Rattle.block_vectors.proofs.report.say_numbers.Statement.{statement
 use Rattle.block_vectors.proofs.report.say_numbers.Tie as tie
 
 abbrev Inv-loop : tie.InvT-loop
-Inv-loop bytes all i₀ t5 t6 i = i ≤ 18
+Inv-loop «record» n names all i₀ t7 i = i ≤ n
 
 abbrev μ-loop : tie.MeasureT-loop
-μ-loop bytes all i₀ t5 t6 i = 18 - i
+μ-loop «record» n names all i₀ t7 i = n - i
 
 pub say-numbers-spec : {M : Type 1} → statement M
 say-numbers-spec =

@@ -1,13 +1,14 @@
 use borrow.Author.Needs.{needs}
 use Prim.Native.Nat.{_≤_, _-_}
+use lib.ListN.{length}
 use Rattle.block_vectors.proofs.report.say_texts.Statement.{statement}
 use Rattle.block_vectors.proofs.report.say_texts.Tie as tie
 
 abbrev Inv-loop : tie.InvT-loop
-Inv-loop bytes from₀ i₀ t6 t7 from i = (i ≤ 20) × (from ≤ 231)
+Inv-loop «record» start names widths from₀ i₀ t8 from i = (i ≤ length widths) × (from ≤ 240)
 
 abbrev μ-loop : tie.MeasureT-loop
-μ-loop bytes from₀ i₀ t6 t7 from i = 20 - i
+μ-loop «record» start names widths from₀ i₀ t8 from i = length widths - i
 
 pub say-texts-spec : {M : Type 1} → statement M
 say-texts-spec =
@@ -18,7 +19,6 @@ say-texts-spec =
     (λ c. search needs)
     (λ c. search needs)
     (λ c κs. search needs)
-    (λ c. search needs)
     (λ c. search needs)
     (λ c. search needs)
     (λ c κs. search needs)

@@ -14,7 +14,7 @@ returns-2 : tie.Need-returns-2
 returns-2 c = rw (le-ltb 65534 _ (c .before .before .before .before .if1 .left), le-leb _ _ (end-at _ _ (sym (c .before .enum-told .given .1) ∙ c .before .before .before .line-from .ensures))) (c .no-line2 .ensures)
 
 returns-3 : tie.Need-returns-3
-returns-3 c = c .known-line .ensures ∙ after-known _ _ (c .before .before .before .before .before .before .before .before .args .phases) (c .before .before .before .before .before .before .if1 .left) (found (c .before .before .before))
+returns-3 c = c .known-line .ensures ∙ after-known _ _ (c .before .before .before .before .before .before .before .before .args .rows) (c .before .before .before .before .before .before .if1 .left) (found (c .before .before .before))
 
 pub line-after-spec : {M : Type 1} → statement M
 line-after-spec =
