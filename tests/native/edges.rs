@@ -49,7 +49,7 @@ fn dates_read(g: &mut Group, line: &[u8]) {
     }
 }
 
-/// Numbers of a date that are written, out of range or too wide, also behind a network or a station that is refused.
+/// Numbers of a date that are written, out of range or too wide, also behind a blank station.
 fn dates_written(g: &mut Group, rec: &[u8]) {
     let years = [i64::MIN, -10000, -1000, -999, -1, 0, 996, 9999, 10000, i64::MAX];
     let parts = [i64::MIN, -10, -9, -1, 0, 1, 8, 12, 13, 31, 32, 99, 100, i64::MAX];
