@@ -95,7 +95,7 @@ pub fn compare_walk(g: &mut Group, file: &File, b: &[u8]) {
     }
 }
 
-/// Blocks at the limit of 65,536 bytes: many lines, a long closing line, a long first line.
+/// Blocks at the limit of 65,536 bytes: many lines, a long closing line, the last line cut, a long first line.
 pub fn long_blocks(r: &mut Rng, file: &File) -> Group {
     let mut g = Group::new(format!("{} blocks near 65,536 bytes", file.name));
     for size in [65535, 65536, 65537, 70000] {
@@ -122,6 +122,9 @@ pub fn long_blocks(r: &mut Rng, file: &File) -> Group {
             short.extend(if i == 0 || r.one_in(2) { file.shortest } else { b" ()" });
         }
         short.truncate(size);
+        compare_block(&mut g, file, &short);
+        let last = short.iter().rposition(|&b| b == b'\n').unwrap() + 1;
+        short[last..].fill(b' ');
         compare_block(&mut g, file, &short);
         compare_walk(&mut g, file, &short);
         let mut first = block::header(&file.format);
