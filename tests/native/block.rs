@@ -1,46 +1,13 @@
-//! The phase block, after document 01, "The block".
+//! The block of a file format, after document 01, "The block". A row is a phase line, or an arrival line.
 use crate::number::*;
-use crate::phase;
+use crate::row::Format;
 
 pub const OUT_OF_PLACE: u8 = 14;
 pub const NOT_CLOSED: u8 = 15;
 
-/// Document 003's words and the columns they begin in.
-const WORDS: [(usize, &str); 29] = [
-    (1, "Sta"),
-    (9, "Dist"),
-    (15, "EvAz"),
-    (20, "Phase"),
-    (33, "Time"),
-    (43, "TRes"),
-    (49, "Azim"),
-    (54, "AzRes"),
-    (62, "Slow"),
-    (69, "SRes"),
-    (74, "Def"),
-    (80, "SNR"),
-    (90, "Amp"),
-    (96, "Per"),
-    (100, "Qual"),
-    (105, "Magnitude"),
-    (118, "ArrID"),
-    (127, "Agy"),
-    (133, "Deploy"),
-    (142, "Ln"),
-    (145, "Auth"),
-    (151, "Rep"),
-    (157, "PCh"),
-    (161, "ACh"),
-    (165, "L"),
-    (169, "Lat"),
-    (179, "Lon"),
-    (187, "Elev"),
-    (195, "Depth"),
-];
-
-pub fn header() -> Vec<u8> {
+pub fn header(format: &Format) -> Vec<u8> {
     let mut line = Vec::new();
-    for (column, word) in WORDS {
+    for (column, word) in format.words {
         line.resize(column - 1, b' ');
         line.extend_from_slice(word.as_bytes());
     }
@@ -56,7 +23,7 @@ fn trimmed(line: &[u8]) -> &[u8] {
 pub enum Kind {
     Closing,
     Comment,
-    Phase,
+    Row,
 }
 
 pub fn kind(line: &[u8]) -> Kind {
@@ -65,7 +32,7 @@ pub fn kind(line: &[u8]) -> Kind {
     } else if line.starts_with(b" (") {
         Kind::Comment
     } else {
-        Kind::Phase
+        Kind::Row
     }
 }
 
@@ -86,8 +53,8 @@ fn judge_comment(line: &[u8], seen: bool) -> Result<(), Refusal> {
     }
 }
 
-/// Phase lines, comments and bytes used; or number, column and line.
-pub fn read(block: &[u8]) -> Result<(usize, usize, usize), (u8, usize, usize)> {
+/// Rows, comments and bytes used; or number, column and line.
+pub fn read(format: &Format, block: &[u8]) -> Result<(usize, usize, usize), (u8, usize, usize)> {
     if block.len() > 65536 {
         return Err((LENGTH, 0, 0));
     }
@@ -95,42 +62,42 @@ pub fn read(block: &[u8]) -> Result<(usize, usize, usize), (u8, usize, usize)> {
     let mut lines = block.split_inclusive(|&b| b == b'\n');
     let bare = |l: &'_ [u8]| l.strip_suffix(b"\n").unwrap_or(l).to_vec();
     let first = lines.next().map(bare);
-    if first.as_deref().map(trimmed) != Some(&header()) {
+    if first.as_deref().map(trimmed) != Some(&header(format)) {
         return Err((OUT_OF_PLACE, 0, 1));
     }
     let mut used = block.split_inclusive(|&b| b == b'\n').next().unwrap().len();
-    let (mut phases, mut comments) = (0, 0);
+    let (mut rows, mut comments) = (0, 0);
     for (i, whole) in lines.enumerate() {
         let line = bare(whole);
         used += whole.len();
         match kind(&line) {
-            Kind::Closing => return Ok((phases, comments, used)),
+            Kind::Closing => return Ok((rows, comments, used)),
             Kind::Comment => {
-                judge_comment(&line, phases > 0).map_err(|(n, c)| (n, c, i + 2))?;
+                judge_comment(&line, rows > 0).map_err(|(n, c)| (n, c, i + 2))?;
                 comments += 1;
             }
-            Kind::Phase => {
-                phase::read_line(&line).map_err(|(n, c)| (n, c, i + 2))?;
-                phases += 1;
+            Kind::Row => {
+                format.read_line(&line).map_err(|(n, c)| (n, c, i + 2))?;
+                rows += 1;
             }
         }
     }
-    Ok((phases, comments, used))
+    Ok((rows, comments, used))
 }
 
-/// A walk's answer by its parts: kind (40 to 43; a refusal; 0 for no line), phase, end, place after.
+/// A walk's answer by its parts: kind (40 to 43; a refusal; 0 for no line), row, end, place after.
 pub struct Told {
     pub kind: u8,
-    pub phase: usize,
+    pub row: usize,
     pub end: usize,
     pub next: usize,
 }
 
-const NO_LINE: Told = Told { kind: 0, phase: 0, end: 0, next: 0 };
-const LAST_PHASE: usize = 65534;
+const NO_LINE: Told = Told { kind: 0, row: 0, end: 0, next: 0 };
+const LAST_ROW: usize = 65534;
 
 /// The line after the one that `before` tells of; the first line where nothing came before.
-pub fn line_after(block: &[u8], before: Option<Told>) -> Told {
+pub fn line_after(format: &Format, block: &[u8], before: Option<Told>) -> Told {
     if block.len() > 65536 {
         return Told { kind: LENGTH, ..NO_LINE };
     }
@@ -138,18 +105,18 @@ pub fn line_after(block: &[u8], before: Option<Told>) -> Told {
     let end = at + block.iter().skip(at).position(|&b| b == b'\n').unwrap_or(block.len().saturating_sub(at));
     let next = if end < block.len() { end + 1 } else { end };
     let Some(before) = before else {
-        let headed = trimmed(&block[..end]) == header();
-        return if headed { Told { kind: 40, phase: 0, end, next } } else { Told { kind: OUT_OF_PLACE, ..NO_LINE } };
+        let headed = trimmed(&block[..end]) == header(format);
+        return if headed { Told { kind: 40, row: 0, end, next } } else { Told { kind: OUT_OF_PLACE, ..NO_LINE } };
     };
-    if !(40..=42).contains(&before.kind) || before.phase > LAST_PHASE || at >= block.len() {
+    if !(40..=42).contains(&before.kind) || before.row > LAST_ROW || at >= block.len() {
         return NO_LINE;
     }
-    let (kind, phase) = match kind(&block[at..end]) {
+    let (kind, row) = match kind(&block[at..end]) {
         Kind::Closing => (43, 0),
-        Kind::Comment => (42, before.phase),
-        Kind::Phase => (41, before.phase + 1),
+        Kind::Comment => (42, before.row),
+        Kind::Row => (41, before.row + 1),
     };
-    Told { kind, phase, end, next }
+    Told { kind, row, end, next }
 }
 
 /// The bytes from a place on, one of them kept for the newline.
@@ -162,14 +129,14 @@ fn ended(mut line: Vec<u8>) -> Vec<u8> {
     line
 }
 
-pub fn header_call(at: usize, size: usize) -> Result<Vec<u8>, Refusal> {
-    if room_from(at, size) < 199 {
+pub fn header_call(format: &Format, at: usize, size: usize) -> Result<Vec<u8>, Refusal> {
+    if room_from(at, size) < format.width {
         Err((SHORT, 0))
     } else {
-        Ok(ended(header()))
+        Ok(ended(header(format)))
     }
 }
 
-pub fn record_call(record: &[u8], at: usize, size: usize) -> Result<Vec<u8>, Refusal> {
-    phase::write_line(record, room_from(at, size)).map(ended)
+pub fn record_call(format: &Format, record: &[u8], at: usize, size: usize) -> Result<Vec<u8>, Refusal> {
+    format.write_line(record, room_from(at, size)).map(ended)
 }

@@ -4,15 +4,21 @@ mod raw {
     extern "C" {
         pub fn rotmibel_read_line(line: *const u8, n: usize, out: *mut u8, m: usize) -> u64;
         pub fn rotmibel_write_line(from: *const u8, n: usize, out: *mut u8, m: usize) -> u64;
-        pub fn rotmibel_read_phase(line: *const u8, n: usize, out: *mut u8, m: usize) -> u64;
-        pub fn rotmibel_write_phase(from: *const u8, n: usize, out: *mut u8, m: usize) -> u64;
         pub fn rotmibel_take(room: *mut u8, n: usize, line: *const u8, m: usize) -> u64;
         pub fn rotmibel_look_up(room: *const u8, n: usize, s: *const u8, m: usize, i: *const u8, k: usize) -> u64;
         pub fn rotmibel_in_order(room: *const u8, n: usize) -> u64;
+        pub fn rotmibel_read_phase(line: *const u8, n: usize, out: *mut u8, m: usize) -> u64;
+        pub fn rotmibel_write_phase(from: *const u8, n: usize, out: *mut u8, m: usize) -> u64;
         pub fn rotmibel_read_block(block: *const u8, n: usize) -> u64;
         pub fn rotmibel_block_line(block: *const u8, n: usize, before: u64) -> u64;
         pub fn rotmibel_write_header(out: *mut u8, n: usize, at: usize) -> u64;
         pub fn rotmibel_write_record(from: *const u8, n: usize, out: *mut u8, m: usize, at: usize) -> u64;
+        pub fn rotmibel_read_arrival(line: *const u8, n: usize, out: *mut u8, m: usize) -> u64;
+        pub fn rotmibel_write_arrival(from: *const u8, n: usize, out: *mut u8, m: usize) -> u64;
+        pub fn rotmibel_read_arrival_block(block: *const u8, n: usize) -> u64;
+        pub fn rotmibel_arrival_block_line(block: *const u8, n: usize, before: u64) -> u64;
+        pub fn rotmibel_write_arrival_header(out: *mut u8, n: usize, at: usize) -> u64;
+        pub fn rotmibel_write_arrival_record(from: *const u8, n: usize, out: *mut u8, m: usize, at: usize) -> u64;
     }
 }
 
@@ -35,12 +41,6 @@ pub fn read_line(line: &[u8], out: &[u8]) -> (u64, Vec<u8>) {
 pub fn write_line(from: &[u8], out: &[u8]) -> (u64, Vec<u8>) {
     lent(out, |p, n| unsafe { raw::rotmibel_write_line(from.as_ptr(), from.len(), p, n) })
 }
-pub fn read_phase(line: &[u8], out: &[u8]) -> (u64, Vec<u8>) {
-    lent(out, |p, n| unsafe { raw::rotmibel_read_phase(line.as_ptr(), line.len(), p, n) })
-}
-pub fn write_phase(from: &[u8], out: &[u8]) -> (u64, Vec<u8>) {
-    lent(out, |p, n| unsafe { raw::rotmibel_write_phase(from.as_ptr(), from.len(), p, n) })
-}
 pub fn take(room: &[u8], line: &[u8]) -> (u64, Vec<u8>) {
     lent(room, |p, n| unsafe { raw::rotmibel_take(p, n, line.as_ptr(), line.len()) })
 }
@@ -55,27 +55,72 @@ pub fn look_up(room: &[u8], source: &[u8], identifier: &[u8]) -> u64 {
 pub fn in_order(room: &[u8]) -> u64 {
     unsafe { raw::rotmibel_in_order(room.as_ptr(), room.len()) }
 }
-pub fn read_block(block: &[u8]) -> u64 {
-    unsafe { raw::rotmibel_read_block(block.as_ptr(), block.len()) }
+
+/// The six calls on a file format.
+pub struct FileCalls {
+    read: unsafe extern "C" fn(*const u8, usize, *mut u8, usize) -> u64,
+    write: unsafe extern "C" fn(*const u8, usize, *mut u8, usize) -> u64,
+    read_block: unsafe extern "C" fn(*const u8, usize) -> u64,
+    block_line: unsafe extern "C" fn(*const u8, usize, u64) -> u64,
+    write_header: unsafe extern "C" fn(*mut u8, usize, usize) -> u64,
+    write_record: unsafe extern "C" fn(*const u8, usize, *mut u8, usize, usize) -> u64,
 }
-pub fn block_line(block: &[u8], before: u64) -> u64 {
-    unsafe { raw::rotmibel_block_line(block.as_ptr(), block.len(), before) }
-}
-pub fn write_header(out: &[u8], at: usize) -> (u64, Vec<u8>) {
-    lent(out, |p, n| unsafe { raw::rotmibel_write_header(p, n, at) })
-}
-pub fn write_record(from: &[u8], out: &[u8], at: usize) -> (u64, Vec<u8>) {
-    lent(out, |p, n| unsafe { raw::rotmibel_write_record(from.as_ptr(), from.len(), p, n, at) })
-}
-/// A call with a null pointer and length 0 for everything that it is lent.
-pub fn nulls() -> [u64; 4] {
-    let (p, m) = (std::ptr::null(), std::ptr::null_mut());
-    unsafe {
-        [
-            raw::rotmibel_read_line(p, 0, m, 0),
-            raw::rotmibel_read_block(p, 0),
-            raw::rotmibel_block_line(p, 0, 0),
-            raw::rotmibel_take(m, 0, p, 0),
-        ]
+
+pub const PHASE: FileCalls = FileCalls {
+    read: raw::rotmibel_read_phase,
+    write: raw::rotmibel_write_phase,
+    read_block: raw::rotmibel_read_block,
+    block_line: raw::rotmibel_block_line,
+    write_header: raw::rotmibel_write_header,
+    write_record: raw::rotmibel_write_record,
+};
+
+pub const ARRIVAL: FileCalls = FileCalls {
+    read: raw::rotmibel_read_arrival,
+    write: raw::rotmibel_write_arrival,
+    read_block: raw::rotmibel_read_arrival_block,
+    block_line: raw::rotmibel_arrival_block_line,
+    write_header: raw::rotmibel_write_arrival_header,
+    write_record: raw::rotmibel_write_arrival_record,
+};
+
+impl FileCalls {
+    pub fn read(&self, line: &[u8], out: &[u8]) -> (u64, Vec<u8>) {
+        lent(out, |p, n| unsafe { (self.read)(line.as_ptr(), line.len(), p, n) })
     }
+    pub fn write(&self, from: &[u8], out: &[u8]) -> (u64, Vec<u8>) {
+        lent(out, |p, n| unsafe { (self.write)(from.as_ptr(), from.len(), p, n) })
+    }
+    pub fn read_block(&self, block: &[u8]) -> u64 {
+        unsafe { (self.read_block)(block.as_ptr(), block.len()) }
+    }
+    pub fn block_line(&self, block: &[u8], before: u64) -> u64 {
+        unsafe { (self.block_line)(block.as_ptr(), block.len(), before) }
+    }
+    pub fn write_header(&self, out: &[u8], at: usize) -> (u64, Vec<u8>) {
+        lent(out, |p, n| unsafe { (self.write_header)(p, n, at) })
+    }
+    pub fn write_record(&self, from: &[u8], out: &[u8], at: usize) -> (u64, Vec<u8>) {
+        lent(out, |p, n| unsafe { (self.write_record)(from.as_ptr(), from.len(), p, n, at) })
+    }
+    /// Each call with a null pointer and length 0 for everything that it is lent, in the order above.
+    pub fn nulls(&self) -> [u64; 6] {
+        let (p, m) = (std::ptr::null(), std::ptr::null_mut());
+        unsafe {
+            [
+                (self.read)(p, 0, m, 0),
+                (self.write)(p, 0, m, 0),
+                (self.read_block)(p, 0),
+                (self.block_line)(p, 0, 0),
+                (self.write_header)(m, 0, 0),
+                (self.write_record)(p, 0, m, 0, 0),
+            ]
+        }
+    }
+}
+
+/// Reading and taking a line with a null pointer and length 0 for everything that they are lent.
+pub fn nulls() -> [u64; 2] {
+    let (p, m) = (std::ptr::null(), std::ptr::null_mut());
+    unsafe { [raw::rotmibel_read_line(p, 0, m, 0), raw::rotmibel_take(m, 0, p, 0)] }
 }

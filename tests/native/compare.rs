@@ -4,15 +4,15 @@ use crate::number::{Refusal, SHORT};
 
 /// One group of comparisons: how many calls were made, how many differed, and how many got each answer.
 pub struct Group {
-    pub name: &'static str,
+    pub name: String,
     pub calls: u64,
     pub differ: u64,
     pub answers: [u64; 256],
 }
 
 impl Group {
-    pub fn new(name: &'static str) -> Group {
-        Group { name, calls: 0, differ: 0, answers: [0; 256] }
+    pub fn new(name: impl Into<String>) -> Group {
+        Group { name: name.into(), calls: 0, differ: 0, answers: [0; 256] }
     }
 
     /// Counts a call's answer, the lowest part of what it returned.

@@ -1,19 +1,13 @@
-//! The calls that read a line into a record or write a record as a line, held to the second implementation.
+//! The calls that read a CUBE line into a record or write a record as a CUBE line, held to the second implementation.
 use crate::compare::{place_for, record_of, written, Group};
 use crate::make::Rng;
 use crate::rooms::compare_take;
-use crate::{calls, cube, link, make, phase, room};
+use crate::rows::{compare_read, ARRIVALS, PHASES};
+use crate::{calls, cube, link, make, room};
 
 fn compare_cube(g: &mut Group, line: &[u8], out: &[u8]) {
     let wanted = written(record_of(cube::read_line(line), cube::RECORD, out.len()), out, 0, |n| n as u64);
     let got = calls::read_line(line, out);
-    g.met(got.0);
-    g.same(got, wanted, &[line]);
-}
-
-pub fn compare_phase(g: &mut Group, line: &[u8], out: &[u8]) {
-    let wanted = written(record_of(phase::read_line(line), phase::RECORD, out.len()), out, 0, |n| n as u64);
-    let got = calls::read_phase(line, out);
     g.met(got.0);
     g.same(got, wanted, &[line]);
 }
@@ -28,11 +22,13 @@ pub fn cube_lines(r: &mut Rng, times: usize) -> Group {
     g
 }
 
-/// Every byte of a good line set to every value.
+/// Every byte of a good line of each kind set to every value; each read by every reader.
 pub fn each_damage(r: &mut Rng) -> Group {
     let mut g = Group::new("every single-byte damage");
     let out = vec![7; 300];
-    for line in [make::event(r, 9), make::delete(r, 9, false), make::link(r, 9), make::link(r, 9), make::phase_line(r)] {
+    let cube_lines = [make::event(r, 9), make::delete(r, 9, false), make::link(r, 9), make::link(r, 9)];
+    let rows = [&PHASES, &ARRIVALS].map(|file| make::full_line(r, &file.format));
+    for line in cube_lines.into_iter().chain(rows) {
         for at in 0..line.len() {
             for b in 0..=255 {
                 let mut l = line.clone();
@@ -42,7 +38,8 @@ pub fn each_damage(r: &mut Rng) -> Group {
                     make::seal(&mut l);
                     compare_cube(&mut g, &l, &out);
                 }
-                compare_phase(&mut g, &l, &out);
+                compare_read(&mut g, &PHASES, &l, &out);
+                compare_read(&mut g, &ARRIVALS, &l, &out);
             }
         }
     }
@@ -94,33 +91,6 @@ pub fn link_edges(r: &mut Rng) -> Group {
         for size in [link::line_length(&rec) - 1, link::line_length(&rec), link::LONGEST + 1, 0] {
             compare_writing(&mut g, &rec, &vec![3; size]);
         }
-    }
-    g
-}
-
-pub fn phase_lines(r: &mut Rng, times: usize) -> Group {
-    let mut g = Group::new("phase lines read");
-    for _ in 0..times {
-        let line = make::any_phase_line(r);
-        let out = place_for(r, phase::RECORD);
-        compare_phase(&mut g, &line, &out);
-    }
-    g
-}
-
-pub fn phase_records(r: &mut Rng, times: usize) -> Group {
-    let mut g = Group::new("phase records written");
-    for _ in 0..times {
-        let rec = make::phase_record(r);
-        let out = place_for(r, 199);
-        let wanted = written(phase::write_line(&rec, out.len()), &out, 0, |n| n as u64);
-        let got = calls::write_phase(&rec, &out);
-        g.met(got.0);
-        if got.0 & 255 == 0 {
-            let back = calls::read_phase(&got.1[..199], &[0; 231]);
-            g.same((back.0 & 255, &back.1[..]), (0, &rec[..231]), &[&rec]);
-        }
-        g.same(got, wanted, &[&rec]);
     }
     g
 }

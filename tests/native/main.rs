@@ -5,28 +5,39 @@ mod blocks;
 mod calls;
 mod compare;
 mod cube;
+mod edges;
 mod example;
+mod examples;
+mod formats;
 mod lines;
 mod link;
 mod make;
 mod number;
-mod phase;
 mod room;
 mod rooms;
+mod row;
+mod rows;
 
 use blocks::*;
 use compare::{parts, Group};
-use example::*;
+use edges::*;
+use examples::*;
 use lines::*;
 use make::Rng;
 use rooms::*;
+use rows::*;
 
 fn null_pointers() -> Group {
     let mut g = Group::new("null pointers with length 0");
-    let (short, unplaced) = (parts(number::SHORT, 0, 0), parts(block::OUT_OF_PLACE, 0, 0));
-    let wanted = [short, parts(block::OUT_OF_PLACE, 0, 1), unplaced, short];
-    for (got, wanted) in calls::nulls().into_iter().zip(wanted) {
-        g.same(got, wanted, &[]);
+    let (short, none, unplaced) = (parts(number::SHORT, 0, 0), parts(number::FORM, 0, 0), parts(block::OUT_OF_PLACE, 0, 0));
+    for got in calls::nulls() {
+        g.same(got, short, &[]);
+    }
+    let wanted = [short, none, parts(block::OUT_OF_PLACE, 0, 1), unplaced, short, none];
+    for file in [&PHASES, &ARRIVALS] {
+        for (got, wanted) in file.calls.nulls().into_iter().zip(wanted) {
+            g.same(got, wanted, &[]);
+        }
     }
     g
 }
@@ -37,19 +48,29 @@ fn main() {
     let times = args.next().unwrap_or(1) as usize;
     println!("seed {seed}, times {times}");
     let mut r = Rng(seed);
-    let groups = [
+    let mut groups = vec![
         null_pointers(),
         each_damage(&mut r),
         cube_lines(&mut r, 300_000 * times),
         cube_records(&mut r, 200_000 * times),
-        phase_lines(&mut r, 200_000 * times),
-        phase_records(&mut r, 150_000 * times),
-        blocks(&mut r, 20_000 * times),
-        long_blocks(&mut r),
-        example_lines(&mut r),
-        example_blocks(),
-        block_writing(&mut r, 15_000 * times),
         link_edges(&mut r),
+    ];
+    for example in [example::phases(), example::arrivals()] {
+        let file = example.file;
+        groups.extend([
+            lines_read(&mut r, file, 200_000 * times),
+            records_written(&mut r, file, 150_000 * times),
+            blocks(&mut r, file, 20_000 * times),
+            long_blocks(&mut r, file),
+            example_lines(&mut r, &example),
+            example_blocks(&example),
+            block_writing(&mut r, file, 15_000 * times),
+        ]);
+    }
+    groups.extend([
+        arrival_edges(&mut r),
+        flags(&mut r, [&PHASES, &ARRIVALS]),
+        other_blocks(&mut r, [&PHASES, &ARRIVALS], 6_000 * times),
         taking(&mut r, 40_000 * times),
         near_full(&mut r, 8_000 * times),
         many_links(&mut r, 6_000 * times),
@@ -57,7 +78,7 @@ fn main() {
         broken_rooms(&mut r, 900 * times),
         old_rooms(&mut r, 1_000 * times),
         two_desks(&mut r, 1_500 * times),
-    ];
+    ]);
     for g in &groups {
         println!("{}: {} calls, {} differ", g.name, g.calls, g.differ);
         let met = (0..256).filter(|&a| g.answers[a] > 0).map(|a| format!("{a}: {}", g.answers[a]));

@@ -1,14 +1,14 @@
 //! Inputs: a small generator of numbers, and lines, records, blocks and rooms, good and damaged.
 mod cubes;
 mod links;
-mod phases;
 mod rooms;
+mod rows;
 
 use crate::cube::EVENT_LINE;
 pub use cubes::*;
 pub use links::*;
-pub use phases::*;
 pub use rooms::*;
+pub use rows::*;
 
 /// Numbers by splitmix64: the same seed gives the same run.
 pub struct Rng(pub u64);
@@ -43,7 +43,14 @@ impl Rng {
 }
 
 /// Bytes that stand at the edge of a rule.
-pub const EDGES: &[u8] = b" _-+.:0159ATSamcdieq<>()[]EDZ\n\r\t\x00\x1f\x7f\x80\xff~!";
+pub const EDGES: &[u8] = b" _-+.:/0159ATSamcdieq<>()[]EDZ\n\r\t\x00\x1f\x7f\x80\xff~!";
+
+/// The bytes with others laid over them from a place on.
+pub fn with(bytes: &[u8], at: usize, others: &[u8]) -> Vec<u8> {
+    let mut all = bytes.to_vec();
+    all[at..at + others.len()].copy_from_slice(others);
+    all
+}
 
 /// One byte of a line changed; of an E line the check character often made right again.
 pub fn damaged(r: &mut Rng, line: &[u8]) -> Vec<u8> {
@@ -101,7 +108,7 @@ pub fn spaced(r: &mut Rng, line: &[u8]) -> Vec<u8> {
 fn edge_number(r: &mut Rng, rec: &mut [u8], flags: usize, values: usize, n: usize) {
     let i = r.below(n);
     let v = match r.below(5) {
-        0 => r.pick(&[0, -1, 1, 99, 100, -9, -10, 999, 1000, -99, -100, 9999, 10000, 18000, 18001, 3600, 3601, 59999, 60000]),
+        0 => r.pick(&[0, -1, 1, 12, 13, 31, 32, 99, 100, -9, -10, 999, 1000, -99, -100, 9999, 10000, 18000, 18001, 3600, 3601, 59999, 60000]),
         1 => 10i64.pow(r.below(11) as u32) - r.between(0, 1),
         2 => -(10i64.pow(r.below(11) as u32)) + r.between(0, 1),
         3 => r.pick(&[900000, 900001, -900000, -900001, 1800000, 1800001, -1800001, i64::MIN, i64::MAX]),

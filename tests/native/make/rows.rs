@@ -1,0 +1,171 @@
+//! Lines of the file formats, their records, and blocks.
+use super::*;
+use crate::block;
+use crate::row::{Field, Format, Placed};
+
+/// Bytes of the letter columns, and some of none.
+const LETTERS: &[u8] = b"TASamcdieq<>_ xZ";
+/// Bytes that a required text may begin with.
+const FIRSTS: &[u8] = b"ABZ0(_";
+
+/// An acceptable line of full width.
+pub fn full_line(r: &mut Rng, format: &Format) -> Vec<u8> {
+    let rec = good_record(r, format);
+    format.write_line(&rec, format.width).unwrap()
+}
+
+/// An acceptable line, not always of full width.
+pub fn row_line(r: &mut Rng, format: &Format) -> Vec<u8> {
+    let mut l = full_line(r, format);
+    if r.one_in(3) {
+        while l.last() == Some(&b' ') {
+            l.pop();
+        }
+    }
+    l
+}
+
+/// A record whose line is accepted.
+pub fn good_record(r: &mut Rng, format: &Format) -> Vec<u8> {
+    let mut rec = vec![0; format.record()];
+    rec[0] = format.kind;
+    for f in format.placed() {
+        match f.field {
+            Field::Dec(_, low, high) => {
+                if !r.one_in(3) {
+                    format.put(&mut rec, f.at, number_in(r, f.ends(low, high)));
+                }
+            }
+            Field::Marked(_, parts) => {
+                if !r.one_in(4) {
+                    for (i, p) in parts.iter().enumerate() {
+                        format.put(&mut rec, f.at + i, number_in(r, (p.low, p.high)));
+                    }
+                }
+            }
+            field => rec[f.at..f.at + f.width()].copy_from_slice(&text(r, field, f.width())),
+        }
+    }
+    rec
+}
+
+fn number_in(r: &mut Rng, (low, high): (i64, i64)) -> i64 {
+    if r.one_in(4) {
+        r.pick(&[low, high])
+    } else {
+        r.between(low, high)
+    }
+}
+
+fn text(r: &mut Rng, field: Field, width: usize) -> Vec<u8> {
+    let mut cell: Vec<u8> = (0..width).map(|_| r.letter()).collect();
+    match field {
+        Field::Letters(set) => cell[0] = r.pick(set),
+        Field::Flush if r.one_in(4) => cell.fill(b' '),
+        Field::Flush | Field::Begun => cell[0] = r.pick(FIRSTS),
+        Field::Filled => {
+            if r.one_in(4) {
+                cell.fill(b' ');
+            }
+            cell[r.below(width)] = r.pick(FIRSTS);
+        }
+        _ => {}
+    }
+    cell
+}
+
+/// A record, perhaps with bytes behind it, or bytes that are none: numbers at the edges, text columns that have a rule changed, a byte
+/// changed, short, or random.
+pub fn row_record(r: &mut Rng, format: &Format) -> Vec<u8> {
+    let mut rec = good_record(r, format);
+    match r.below(8) {
+        0 if r.one_in(4) => rec.resize(format.record() + r.below(20), r.next() as u8),
+        0..=2 => {}
+        3 | 4 => edge_number(r, &mut rec, 1, format.first_number(), format.numbers),
+        5 if r.one_in(2) => rec.truncate(r.below(format.record() + 1)),
+        5 if r.one_in(3) => no_number(r, &mut rec, 1, format.first_number(), format.numbers),
+        5 => spoil_text(r, format, &mut rec),
+        6 => {
+            let n = format.record() - 6 + r.below(12);
+            rec = r.bytes(n);
+            rec[0] = format.kind;
+        }
+        _ => {
+            let at = r.below(rec.len());
+            rec[at] = if r.one_in(2) { r.pick(EDGES) } else { r.next() as u8 };
+        }
+    }
+    rec
+}
+
+/// Of a text column that has a rule the first byte changed, or every byte made blank.
+fn spoil_text(r: &mut Rng, format: &Format, rec: &mut [u8]) {
+    let has_rule = |f: &Placed| matches!(f.field, Field::Begun | Field::Filled | Field::Flush | Field::Letters(_));
+    let ruled: Vec<Placed> = format.placed().filter(has_rule).collect();
+    let f = r.pick(&ruled);
+    match r.below(4) {
+        0 => rec[f.at] = b' ',
+        1 => rec[f.at..f.at + f.width()].fill(b' '),
+        _ => rec[f.at] = r.pick(LETTERS),
+    }
+}
+
+pub fn any_row_line(r: &mut Rng, format: &Format) -> Vec<u8> {
+    let good = row_line(r, format);
+    match r.below(10) {
+        0..=3 => good,
+        4..=6 => damaged(r, &good),
+        7 => resized(r, &good),
+        8 => filled(r, &good),
+        _ => {
+            let n = r.below(format.width + 31);
+            (0..n).map(|_| r.pick(EDGES)).collect()
+        }
+    }
+}
+
+fn comment(r: &mut Rng) -> Vec<u8> {
+    let n = if r.one_in(12) { 1015 + r.below(12) } else { r.below(40) };
+    let mut l = b" (".to_vec();
+    l.extend((0..n).map(|_| r.letter()));
+    if !r.one_in(15) {
+        l.push(b')');
+    }
+    l.resize(l.len() + r.below(3), b' ');
+    l
+}
+
+/// A block of a few lines, mostly good; then perhaps one byte changed, or cut.
+pub fn a_block(r: &mut Rng, format: &Format) -> Vec<u8> {
+    let mut b = block::header(format);
+    b.resize(format.width + r.below(3), b' ');
+    b.push(b'\n');
+    for i in 0..r.below(8) {
+        let line = match r.below(12) {
+            0 => any_row_line(r, format),
+            1 | 2 if i > 0 => comment(r),
+            3 if r.one_in(4) => comment(r),
+            _ => row_line(r, format),
+        };
+        b.extend(line);
+        b.push(b'\n');
+    }
+    if r.one_in(2) {
+        b.resize(b.len() + r.below(4), b' ');
+        if r.one_in(2) {
+            b.push(b'\n');
+        }
+        if r.one_in(3) {
+            let n = r.below(50);
+            b.extend(r.bytes(n));
+        }
+    }
+    match r.below(6) {
+        0 => damaged(r, &b),
+        1 => {
+            b.truncate(r.below(b.len() + 1));
+            b
+        }
+        _ => b,
+    }
+}

@@ -1,0 +1,282 @@
+//! A line of a file format and its record, over the format's table: document 01 ("Numbers in columns", "The phase line", "Order"), document
+//! 02 ("Automatic arrivals"), docs/RECORDS.md ("Rows of file formats"). The tables are in formats.rs.
+use crate::number::*;
+
+/// What stands in a field.
+#[derive(Clone, Copy)]
+pub enum Field {
+    Text,
+    /// Required text, which does not begin with a blank.
+    Begun,
+    /// Required text, which is not all blank.
+    Filled,
+    /// Text that is all blank or does not begin with a blank.
+    Flush,
+    /// One of these bytes.
+    Letters(&'static [u8]),
+    /// Digits after the point, and the ends of the range.
+    Dec(usize, i64, i64),
+    /// Three numbers with this mark between them, there or missing together.
+    Marked(u8, &'static [Part; 3]),
+}
+use Field::*;
+
+/// One of the numbers of a date or a time, a decimal where it has digits after a point.
+pub struct Part {
+    pub width: usize,
+    pub decimals: Option<usize>,
+    pub low: i64,
+    pub high: i64,
+}
+
+pub struct Format {
+    pub kind: u8,
+    /// First and last columns; every other column is blank.
+    pub fields: &'static [(usize, usize, Field)],
+    /// The header's words and the columns they begin in.
+    pub words: &'static [(usize, &'static str)],
+    pub width: usize,
+    pub numbers: usize,
+    texts: usize,
+}
+
+/// A field, and where a record has it: the index of its first number, or the place of its first text byte.
+#[derive(Clone, Copy)]
+pub struct Placed {
+    pub first: usize,
+    pub last: usize,
+    pub field: Field,
+    pub at: usize,
+}
+
+impl Placed {
+    pub fn width(&self) -> usize {
+        self.last - self.first + 1
+    }
+
+    /// The lowest and the highest of a decimal field: of its range, or what the column holds.
+    pub fn ends(&self, low: i64, high: i64) -> (i64, i64) {
+        let w = self.width() as u32;
+        (low.max(1 - 10i64.pow(w - 2)), high.min(10i64.pow(w - 1) - 1))
+    }
+}
+
+impl Part {
+    fn read(&self, cell: &[u8]) -> Option<i64> {
+        self.decimals.map_or_else(|| read_int(cell), |d| read_dec(cell, d)).unwrap_or(None)
+    }
+
+    fn holds(&self, v: i64) -> bool {
+        self.decimals.map_or_else(|| holds_int(v, self.width), |_| holds_dec(v, self.width))
+    }
+
+    fn in_range(&self, v: i64) -> bool {
+        (self.low..=self.high).contains(&v)
+    }
+
+    /// Filled with zeros; no number in range is negative.
+    fn write(&self, v: i64) -> String {
+        let cell = self.decimals.map_or_else(|| write_int(v, self.width), |d| write_dec(v, self.width, d));
+        cell.iter().map(|&b| if b == b' ' { '0' } else { b as char }).collect()
+    }
+}
+
+impl Format {
+    pub const fn new(kind: u8, fields: &'static [(usize, usize, Field)], words: &'static [(usize, &'static str)]) -> Format {
+        let (mut i, mut numbers, mut texts) = (0, 0, 0);
+        while i < fields.len() {
+            match fields[i].2 {
+                Dec(..) => numbers += 1,
+                Marked(..) => numbers += 3,
+                _ => texts += fields[i].1 - fields[i].0 + 1,
+            }
+            i += 1;
+        }
+        Format { kind, fields, words, width: fields[i - 1].1, numbers, texts }
+    }
+
+    /// The size of a record.
+    pub const fn record(&self) -> usize {
+        self.first_text() + self.texts
+    }
+
+    /// Where a record's numbers begin, after the kind and the flags, and its text.
+    pub const fn first_number(&self) -> usize {
+        1 + self.numbers
+    }
+    const fn first_text(&self) -> usize {
+        self.first_number() + 8 * self.numbers
+    }
+
+    pub fn placed(&self) -> impl Iterator<Item = Placed> {
+        let (mut number, mut text) = (0, self.first_text());
+        self.fields.iter().map(move |&(first, last, field)| {
+            let (next, size) = match field {
+                Dec(..) => (&mut number, 1),
+                Marked(..) => (&mut number, 3),
+                _ => (&mut text, last - first + 1),
+            };
+            *next += size;
+            Placed { first, last, field, at: *next - size }
+        })
+    }
+
+    fn number_bytes(&self, i: usize) -> std::ops::Range<usize> {
+        let from = self.first_number() + 8 * i;
+        from..from + 8
+    }
+
+    pub fn put(&self, record: &mut [u8], i: usize, v: i64) {
+        record[1 + i] = 1;
+        record[self.number_bytes(i)].copy_from_slice(&v.to_be_bytes());
+    }
+
+    fn get(&self, record: &[u8], i: usize) -> Option<i64> {
+        (record[1 + i] == 1).then(|| i64::from_be_bytes(record[self.number_bytes(i)].try_into().unwrap()))
+    }
+
+    pub fn read_line(&self, line: &[u8]) -> Result<Vec<u8>, Refusal> {
+        if line.len() > self.width {
+            return Err((LENGTH, 0));
+        }
+        if let Some(i) = line.iter().position(|&b| !is_text(b)) {
+            return Err((BARRED, i + 1));
+        }
+        let mut full = line.to_vec();
+        full.resize(self.width, b' ');
+        let mut record = vec![0; self.record()];
+        record[0] = self.kind;
+        let mut column = 1;
+        for f in self.placed() {
+            if let Some(other) = (column..f.first).find(|&c| full[c - 1] != b' ') {
+                return Err((SEPARATOR, other));
+            }
+            self.read_field(&full[f.first - 1..f.last], f, &mut record).map_err(|n| (n, f.first))?;
+            column = f.last + 1;
+        }
+        Ok(record)
+    }
+
+    fn read_field(&self, cell: &[u8], f: Placed, record: &mut [u8]) -> Result<(), u8> {
+        match f.field {
+            Dec(d, low, high) => {
+                if let Some(v) = read_dec(cell, d).map_err(|()| FORM)? {
+                    if v < low || high < v {
+                        return Err(RANGE);
+                    }
+                    self.put(record, f.at, v);
+                }
+            }
+            Marked(mark, parts) => {
+                for (i, v) in read_marked(cell, mark, parts)?.into_iter().enumerate() {
+                    self.put(record, f.at + i, v);
+                }
+            }
+            Letters(set) if !set.contains(&cell[0]) => return Err(LETTER),
+            field => {
+                judge_text(field, cell)?;
+                record[f.at..f.at + cell.len()].copy_from_slice(cell);
+            }
+        }
+        Ok(())
+    }
+
+    fn is_record(&self, r: &[u8]) -> bool {
+        let numbers = (0..self.numbers).all(|i| match r[1 + i] {
+            0 => r[self.number_bytes(i)].iter().all(|&b| b == 0),
+            f => f == 1,
+        });
+        let together = |f: Placed| !matches!(f.field, Marked(..)) || (r[1 + f.at] == r[2 + f.at] && r[2 + f.at] == r[3 + f.at]);
+        r[0] == self.kind && numbers && self.placed().all(together)
+    }
+
+    pub fn write_line(&self, record: &[u8], room: usize) -> Result<Vec<u8>, Refusal> {
+        if record.len() < self.record() || !self.is_record(&record[..self.record()]) {
+            return Err((FORM, 0));
+        }
+        if room < self.width {
+            return Err((SHORT, 0));
+        }
+        let mut line = vec![b' '; self.width];
+        for f in self.placed() {
+            line[f.first - 1..f.last].copy_from_slice(&self.write_field(record, f)?);
+        }
+        Ok(line)
+    }
+
+    fn write_field(&self, record: &[u8], f: Placed) -> Result<Vec<u8>, Refusal> {
+        let w = f.width();
+        match f.field {
+            Dec(d, low, high) => match self.get(record, f.at) {
+                None => Ok(vec![b' '; w]),
+                Some(v) if !holds_dec(v, w) => Err((WIDE, f.first)),
+                Some(v) if v < low || high < v => Err((RANGE, f.first)),
+                Some(v) => Ok(write_dec(v, w, d)),
+            },
+            Marked(mark, parts) => {
+                let values: Vec<i64> = (f.at..f.at + 3).filter_map(|i| self.get(record, i)).collect();
+                if values.is_empty() {
+                    return Ok(vec![b' '; w]);
+                }
+                write_marked(&values, mark, parts).map_err(|n| (n, f.first))
+            }
+            field => {
+                let cell = &record[f.at..f.at + w];
+                judge_text(field, cell).map_err(|n| (n, f.first))?;
+                if let Some(i) = cell.iter().position(|&b| !is_text(b)) {
+                    return Err((BARRED, f.first + i));
+                }
+                match field {
+                    Letters(set) if !set.contains(&cell[0]) => Err((LETTER, f.first)),
+                    _ => Ok(cell.to_vec()),
+                }
+            }
+        }
+    }
+}
+
+pub fn is_blank(cell: &[u8]) -> bool {
+    cell.iter().all(|&b| b == b' ')
+}
+
+fn judge_text(field: Field, cell: &[u8]) -> Result<(), u8> {
+    match field {
+        Begun if cell[0] == b' ' => Err(REQUIRED),
+        Filled if is_blank(cell) => Err(REQUIRED),
+        Flush if cell[0] == b' ' && !is_blank(cell) => Err(FORM),
+        _ => Ok(()),
+    }
+}
+
+/// The numbers of a date or a time, none where it is blank; the form of all before the range of any.
+fn read_marked(cell: &[u8], mark: u8, parts: &[Part; 3]) -> Result<Vec<i64>, u8> {
+    if is_blank(cell) {
+        return Ok(Vec::new());
+    }
+    let mut values = Vec::new();
+    let mut from = 0;
+    for p in parts {
+        if from > 0 && cell[from - 1] != mark {
+            return Err(FORM);
+        }
+        values.push(p.read(&cell[from..from + p.width]).ok_or(FORM)?);
+        from += p.width + 1;
+    }
+    if parts.iter().zip(&values).all(|(p, &v)| p.in_range(v)) {
+        Ok(values)
+    } else {
+        Err(RANGE)
+    }
+}
+
+fn write_marked(values: &[i64], mark: u8, parts: &[Part; 3]) -> Result<Vec<u8>, u8> {
+    let each = || parts.iter().zip(values);
+    if !each().all(|(p, &v)| p.holds(v)) {
+        return Err(WIDE);
+    }
+    if !each().all(|(p, &v)| p.in_range(v)) {
+        return Err(RANGE);
+    }
+    let cells: Vec<String> = each().map(|(p, &v)| p.write(v)).collect();
+    Ok(cells.join(&char::from(mark).to_string()).into_bytes())
+}
