@@ -1,6 +1,6 @@
 /* Phase blocks read and walked through the library's C calls, against plain C of the same rules that goes over the block once, in one run.
    Built and run by bench/run. Both sides are checked to give the same numbers before anything is timed. */
-#include "plain_phase.h"
+#include "plain_rows.h"
 #include "timing.h"
 
 /* ---- plain C */
@@ -95,7 +95,7 @@ static size_t full_lines(void) {
     uint8_t record[ROTMIBEL_PHASE_RECORD];
     size_t at = ROTMIBEL_PLACE(rotmibel_write_header(block, sizeof block, 0));
     for (int i = 0; i < 325; i++) {
-        make_record(record);
+        make_record(&phase_row, record);
         at += ROTMIBEL_LENGTH(plain_write_phase(record, sizeof record, block + at, sizeof block - at));
         block[at++] = '\n';
     }

@@ -1,4 +1,4 @@
-/* What the phase benchmarks share: time, drawn numbers, and good phase records. */
+/* What the benchmarks of rows and blocks share: time, drawn numbers, and good records of the formats in plain_rows.h. */
 #include <stdint.h>
 #include <stdio.h>
 #include <string.h>
@@ -8,6 +8,7 @@ static double seconds(void) { struct timespec t; clock_gettime(CLOCK_MONOTONIC, 
 
 static uint32_t state = 12345;
 static unsigned next(unsigned n) { state = state * 1664525u + 1013904223u; return (unsigned)((uint64_t)(state >> 8) * n >> 24); }
+static int32_t between(int32_t lo, int32_t hi) { return lo + (int32_t)next((unsigned)(hi - lo) + 1); }
 
 static void say_ratio(const char *unit, double scale, double plain, double library) {
     printf("  plain C    %7.1f %s\n", scale * plain, unit);
@@ -16,20 +17,34 @@ static void say_ratio(const char *unit, double scale, double plain, double libra
 }
 
 /* A record that has a line: about a third of its numbers are missing. */
-static void make_record(uint8_t *record) {
-    static const int32_t ends[18][2] = {
-        {0, 18000}, {0, 3600}, {0, 23}, {0, 59}, {0, 59999}, {-999, 9999}, {0, 3600}, {-999, 9999}, {-9999, 99999}, {-9999, 99999},
-        {-999, 9999}, {-9999999, 99999999}, {-999, 9999}, {-99, 999}, {-900000, 900000}, {-1800000, 1800000}, {-99999, 999999}, {-9999, 99999},
-    };
-    static const char texts[] = "ABCDEFGHIJKLMNOPQRSTUVWXYZabcdefgh  0123456789", *const letters[7] = {"T_ ", "A_ ", "S_ ", "am_ ", "cd_ ", "ieq_ ", "<> "};
-    static const uint8_t places[7] = {176, 177, 178, 179, 180, 181, 187};
-    memset(record, 0, ROTMIBEL_PHASE_RECORD);
-    record[0] = ROTMIBEL_PHASE;
-    int timed = next(8) != 0;
-    for (unsigned k = 0; k < 18; k++)
-        if (k >= 2 && k < 5 ? timed : next(3) != 0)
-            put_number(record, k, ends[k][0] + (int32_t)next((unsigned)(ends[k][1] - ends[k][0]) + 1));
-    for (unsigned i = ROTMIBEL_P_STATION; i < ROTMIBEL_PHASE_RECORD; i++) record[i] = (uint8_t)texts[next(sizeof texts - 1)];
-    record[ROTMIBEL_P_STATION] = (uint8_t)texts[next(26)];
-    for (unsigned i = 0; i < 7; i++) record[places[i]] = (uint8_t)letters[i][next((unsigned)strlen(letters[i]))];
+static void make_record(const row_format *row, uint8_t *record) {
+    static const char texts[] = "ABCDEFGHIJKLMNOPQRSTUVWXYZabcdefgh  0123456789";
+    static const int32_t dates[3][2] = {{0, 9999}, {1, 12}, {1, 31}}, times[3][2] = {{0, 23}, {0, 59}, {0, 59999}};
+    unsigned number = 0, text = 1 + 9 * row->numbers;
+    memset(record, 0, row->size);
+    record[0] = (uint8_t)row->kind;
+    for (const row_field *f = row->fields; f < row->fields + row->count; f++) {
+        unsigned w = f->last - f->first + 1u, there;
+        switch (f->kind) {
+        case DECIMAL:
+            if (next(3) != 0) put_number(row, record, number, between(f->lo, f->hi));
+            number++;
+            continue;
+        case DATE:
+        case TIME:
+            there = next(8) != 0;
+            for (unsigned i = 0; there && i < 3; i++) {
+                const int32_t *ends = f->kind == DATE ? dates[i] : times[i];
+                put_number(row, record, number + i, between(ends[0], ends[1]));
+            }
+            number += 3;
+            continue;
+        }
+        for (unsigned i = 0; i < w; i++) record[text + i] = (uint8_t)texts[next(sizeof texts - 1)];
+        if (f->kind == STATION || f->kind == NETWORK) record[text] = (uint8_t)texts[next(26)];
+        if (f->kind == ARRIVAL_STATION) record[text + w - 1] = (uint8_t)texts[next(26)];
+        if (f->kind == NETWORK && next(4) == 0) memset(record + text, ' ', w);
+        if (f->kind == LETTER) record[text] = (uint8_t)f->letters[next((unsigned)strlen(f->letters))];
+        text += w;
+    }
 }
