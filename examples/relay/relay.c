@@ -1,10 +1,11 @@
 /*
- * A relay: takes notices into a catalogue that lives in a file, looks events up in it, and reads phase blocks.
+ * A relay: takes notices into a catalogue that lives in a file, looks events up in it, and reads phase and arrival blocks.
  *
  *   relay take ROOM          takes the lines of standard input into the catalogue in the file ROOM, which is made where there is none
  *   relay find ROOM SS ID    looks up source SS and identifier ID, and prints what is held
  *   relay links ROOM         prints the links
  *   relay block FILE         reads a phase block and prints its records
+ *   relay arrivals FILE      the same of an arrival block
  *
  * A ROOM of the size that it had before there were links is taken as it is meant, with no links, and saved in today's size.
  *
@@ -153,26 +154,49 @@ static void show_phase(const uint8_t *line, size_t n) {
     printf("\n");
 }
 
-static int read_block(const char *name) {
+static void show_arrival(const uint8_t *line, size_t n) {
+    uint8_t record[ROTMIBEL_ARRIVAL_RECORD];
+    if (ROTMIBEL_ANSWER(rotmibel_read_arrival(line, n, record, sizeof record)) != ROTMIBEL_READ) return;
+    printf("%.9s %.5s %.8s", (const char *)record + ROTMIBEL_A_NETWORK, (const char *)record + ROTMIBEL_A_STATION,
+           (const char *)record + ROTMIBEL_A_PHASE);
+    if (rotmibel_arrival_has(record, ROTMIBEL_A_YEAR))
+        printf(" %04" PRId64 "-%02" PRId64 "-%02" PRId64, rotmibel_arrival_number(record, ROTMIBEL_A_YEAR),
+               rotmibel_arrival_number(record, ROTMIBEL_A_MONTH), rotmibel_arrival_number(record, ROTMIBEL_A_DAY));
+    if (rotmibel_arrival_has(record, ROTMIBEL_A_AZIMUTH))
+        printf(" from %.1f degrees", (double)rotmibel_arrival_number(record, ROTMIBEL_A_AZIMUTH) / 10);
+    printf("\n");
+}
+
+/* The calls for the blocks of one format, and what is printed of a line. */
+struct format {
+    const char *name;
+    uint64_t (*read)(const uint8_t *, size_t);
+    uint64_t (*line)(const uint8_t *, size_t, uint64_t);
+    void (*show)(const uint8_t *, size_t);
+};
+static const struct format phases = {"phase", rotmibel_read_block, rotmibel_block_line, show_phase};
+static const struct format arrivals = {"arrival", rotmibel_read_arrival_block, rotmibel_arrival_block_line, show_arrival};
+
+static int read_block(const struct format *of, const char *name) {
     static uint8_t block[ROTMIBEL_BLOCK + 1];
     FILE *f = fopen(name, "rb");
     if (!f) return fail(name);
     size_t n = fread(block, 1, sizeof block, f);
     fclose(f);
-    uint64_t r = rotmibel_read_block(block, n);
+    uint64_t r = of->read(block, n);
     if (ROTMIBEL_ANSWER(r) != ROTMIBEL_READ) {
         printf("refused: %u, column %u, line %zu\n", ROTMIBEL_ANSWER(r), ROTMIBEL_COLUMN(r), ROTMIBEL_LINE_NUMBER(r));
         return 1;
     }
-    printf("%zu phase lines, %zu comments, %zu bytes\n", ROTMIBEL_PHASE_COUNT(r), ROTMIBEL_COMMENT_COUNT(r), ROTMIBEL_BYTES_USED(r));
+    printf("%zu %s lines, %zu comments, %zu bytes\n", ROTMIBEL_PHASE_COUNT(r), of->name, ROTMIBEL_COMMENT_COUNT(r), ROTMIBEL_BYTES_USED(r));
     for (uint64_t before = 0;;) {
-        uint64_t line = rotmibel_block_line(block, n, before);
+        uint64_t line = of->line(block, n, before);
         const uint8_t *from = block + ROTMIBEL_LINE_NEXT(before);
         size_t size = (size_t)(block + ROTMIBEL_LINE_END(line) - from);
         switch (ROTMIBEL_LINE_KIND(line)) {
         case ROTMIBEL_IS_HEADER: break;
-        case ROTMIBEL_IS_PHASE: show_phase(from, size); break;
-        case ROTMIBEL_IS_COMMENT: printf("  of phase %zu:%.*s\n", ROTMIBEL_LINE_PHASE(line), (int)size, (const char *)from); break;
+        case ROTMIBEL_IS_PHASE: of->show(from, size); break; /* ROTMIBEL_IS_ARRIVAL in an arrival block */
+        case ROTMIBEL_IS_COMMENT: printf("  of %s %zu:%.*s\n", of->name, ROTMIBEL_LINE_PHASE(line), (int)size, (const char *)from); break;
         default: return 0; /* the closing line, or the end */
         }
         before = line;
@@ -183,7 +207,8 @@ int main(int argc, char **argv) {
     if (argc == 3 && strcmp(argv[1], "take") == 0) return take(argv[2]);
     if (argc == 5 && strcmp(argv[1], "find") == 0) return find(argv[2], argv[3], argv[4]);
     if (argc == 3 && strcmp(argv[1], "links") == 0) return links(argv[2]);
-    if (argc == 3 && strcmp(argv[1], "block") == 0) return read_block(argv[2]);
-    fprintf(stderr, "usage: relay take ROOM | relay find ROOM SOURCE IDENTIFIER | relay links ROOM | relay block FILE\n");
+    if (argc == 3 && strcmp(argv[1], "block") == 0) return read_block(&phases, argv[2]);
+    if (argc == 3 && strcmp(argv[1], "arrivals") == 0) return read_block(&arrivals, argv[2]);
+    fprintf(stderr, "usage: relay take ROOM | relay find ROOM SOURCE IDENTIFIER | relay links ROOM | relay block FILE | relay arrivals FILE\n");
     return 2;
 }

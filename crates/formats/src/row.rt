@@ -20,7 +20,7 @@ ghost use Rattle.formats.specs.Record.{packed, Replied};
 ghost use Rattle.formats.specs.Row.{readRow, rowPart, namedRow, rowLineAnswer, readRowInto, writeRowFrom};
 ghost use Rattle.formats.specs.Format.{formatOf};
 
-// A line of any bytes and any length, read by the format of a kind: its numbers with their flags (a time takes three) and its text
+// A line of any bytes and any length, read by the format of a kind: its numbers with their flags (a time or a date takes three) and its text
 // bytes over the first places of the lent record, in the order of the columns. Where a column is refused, those before it stand
 // there.
 pub fn read_row(
