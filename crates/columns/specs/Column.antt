@@ -54,8 +54,8 @@ required = true
 abbrev pub optional : Bool
 optional = false
 
--- what a text may be: any text; text with no brackets; text that does not begin with a blank; text that is not all blank; all blank,
--- or text that does not begin with a blank
+-- what a text may be: any text; with no brackets (document 01, "The E line"); not beginning with a blank ("The phase line"); not all
+-- blank; all blank, or not beginning with a blank (document 02, Wish 2: station and network)
 pub data Rule : Type 0 where
   anyText : Rule
   noBrackets : Rule

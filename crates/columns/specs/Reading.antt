@@ -37,7 +37,7 @@ ruleRefuses notBlankFirst f = eqb (getD f 0 0) 32
 ruleRefuses notAllBlank f = allBlank f
 ruleRefuses blankOrFilled f = pick (eqb (getD f 0 0) 32) (not (allBlank f)) false
 
--- required and blank 5; form 6
+-- required and blank 5; form 6, in place of 5 (document 02, Wish 2)
 abbrev pub ruleNumber : Rule → ℕ
 ruleNumber anyText = requiredBlank
 ruleNumber noBrackets = requiredBlank
