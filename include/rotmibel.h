@@ -53,7 +53,7 @@ extern "C" {
 #define ROTMIBEL_SEPARATOR 4 /* a separator of a phase or arrival line is not blank; its column */
 #define ROTMIBEL_REQUIRED 5  /* a required field is blank or missing; its first column */
 #define ROTMIBEL_FORM 6      /* a field of bad form, its first column; malformed parts of a link, column 15; no record, column 0 */
-#define ROTMIBEL_RANGE 7     /* a number out of its range; the field's first column */
+#define ROTMIBEL_RANGE 7     /* a number out of its range, or a day that its month does not have; the field's first column */
 #define ROTMIBEL_LETTER 8    /* not one of the letters that its column may have; that column */
 #define ROTMIBEL_CHECK 9     /* the check character; column 80 */
 #define ROTMIBEL_WIDE 10     /* a number too wide for its field when written; the field's first column */
@@ -122,7 +122,8 @@ extern "C" {
  * (not 80 bytes of E, not 13 to 80 of DE, not 20 to 255 of LI); BARRED (the lowest such column); CHECK (E); then the fields of E from
  * left to right, each REQUIRED, FORM, RANGE; of LI FORM at column 15, where that column is not blank or type, address and text do not
  * follow it, parted by one blank each: a type of 1 to 16 bytes and an address, both without blanks, and a text that does not begin with
- * one; else READ, with length ROTMIBEL_RECORD.
+ * one; else READ, with length ROTMIBEL_RECORD. The day of an E line must exist in the Gregorian calendar, carried backward over all years,
+ * year 0 a leap year: else RANGE at column 20.
  */
 uint64_t rotmibel_read_line(const uint8_t *line, size_t line_len, uint8_t *record, size_t record_len);
 
@@ -219,7 +220,8 @@ uint64_t rotmibel_write_record(const uint8_t *record, size_t record_len, uint8_t
  * Answers, looked for in this order: SHORT (record_len); BAD_LENGTH (over 203 bytes); BARRED (the lowest such column); then the columns
  * from left to right, each SEPARATOR, or REQUIRED (the station is all blank), FORM, RANGE; else READ, with length
  * ROTMIBEL_ARRIVAL_RECORD. A network that begins with a blank and is not all blank is FORM at column 1. A date is all blank, or its two
- * slashes and three numbers, else FORM at column 30; then RANGE there. LETTER is never answered.
+ * slashes and three numbers, else FORM at column 30; then RANGE there, also for a day that the calendar does not have. LETTER is never
+ * answered.
  */
 uint64_t rotmibel_read_arrival(const uint8_t *line, size_t line_len, uint8_t *record, size_t record_len);
 
@@ -262,7 +264,8 @@ uint64_t rotmibel_write_arrival_record(const uint8_t *record, size_t record_len,
  * identifier, type. A link whose text is `delete` or `delete:` says that there is no such page any more; it is kept like the others.
  *
  * A room saved before there were links has ROTMIBEL_OLD_ROOM bytes and no third part. Filled with zeros to ROTMIBEL_ROOM bytes it is the
- * same catalogue, with no links; as it is, each call answers SHORT.
+ * same catalogue, with no links; as it is, each call answers SHORT. A room that holds an E line of a day that does not exist, as earlier
+ * versions took it, is out of order: each call answers DISORDER.
  */
 
 /*

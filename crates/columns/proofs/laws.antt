@@ -10,6 +10,7 @@ pub mod NumberFits
 pub mod Written
 pub mod NumberBack
 pub mod Form
+pub mod Calendar
 pub mod Ranges
 pub mod GroupBack
 pub mod Cursor

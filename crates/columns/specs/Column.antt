@@ -1,14 +1,20 @@
 -- A line format is a list of columns; a record is its numbers and its text bytes, in the order of the columns.
-use Prim.Native.Nat.{ℕ, _+_}
+use Prim.Native.Nat.{ℕ, _+_, _-_}
 use mathlib.Core.List.{List, [], _∷_, _++_}
 use mathlib.Core.Bool.{Bool, true, false, not, _&&_}
 use lib.IntN.{ℤ, pos}
 use lib.Signed.{ltZ, leZ}
+use lib.ListN.{length, getD}
 use lib.Dec.{leb, ltb}
 use Rattle.columns.specs.Answer.{pick}
+use Rattle.columns.specs.Calendar.{daysIn}
 use Rattle.columns.specs.Number.{formWidth, goodForm}
+use Rattle.columns.specs.declared.number.Field.{Field}
+use Rattle.columns.specs.declared.number.Field.the-variants as F
 use Rattle.columns.specs.declared.number.Form.{Form}
 use Rattle.columns.specs.declared.number.Form.the-variants as N
+use Rattle.columns.specs.declared.column.Range.{Range}
+use Rattle.columns.specs.declared.column.Range.the-variants as R
 use Rattle.columns.specs.declared.group.Part.{Part}
 use Rattle.columns.specs.declared.group.Group.{Group}
 
@@ -16,6 +22,12 @@ use Rattle.columns.specs.declared.group.Group.{Group}
 pub data Slot : Type 0 where
   missing : Slot
   given : ℤ → Slot
+
+-- the number that a field gives
+abbrev pub slotIn : Field → Slot
+slotIn F.Missing = missing
+slotIn F.Bad = missing
+slotIn (F.Value v) = given v
 
 pub record Rec : Type 0 where
   pub numbers : List Slot
@@ -26,24 +38,53 @@ joined a b = record { numbers = a .numbers ++ b .numbers; chars = a .chars ++ b 
 
 -- ---- ranges: the numbers that a column may hold
 
--- whatever the column holds; whatever it holds from zero on; from one end to the other
-pub data Range : Type 0 where
-  asHeld : Range
-  notNegative : Range
-  span : ℤ → ℤ → Range
+-- whatever the column holds; whatever it holds from zero on; a day of the calendar; from one end to the other
+abbrev pub asHeld : Range
+asHeld = R.AsHeld
+
+abbrev pub notNegative : Range
+notNegative = R.NotNegative
+
+abbrev pub calendarDay : Range
+calendarDay = R.Day
+
+abbrev pub span : ℤ → ℤ → Range
+span lo hi = R.Span lo hi
 
 abbrev pub within : ℤ → ℤ → ℤ → Bool
 within lo hi v = pick (ltZ v lo) false (pick (ltZ hi v) false true)
 
+-- the last day of a month of a year; 31 where one of them is missing
+abbrev pub lastDay : Slot → Slot → ℕ
+lastDay missing m = 31
+lastDay (given y) missing = 31
+lastDay (given y) (given m) = daysIn y m
+
+-- the last day after the numbers `seen`: the year and the month are the last two
+unfoldable pub lastDayAfter : List Slot → ℕ
+lastDayAfter seen =
+    pick (ltb (length seen) 2) 31
+    (lastDay (getD seen (length seen - 2) missing) (getD seen (length seen - 1) missing))
+
 -- the range step: whether a column may hold v, after the numbers that were read before it
 unfoldable pub allowed : Range → List Slot → ℤ → Bool
-allowed asHeld seen v = true
-allowed notNegative seen v = leZ (pos 0) v
-allowed (span lo hi) seen v = within lo hi v
+allowed R.AsHeld seen v = true
+allowed R.NotNegative seen v = leZ (pos 0) v
+allowed R.Day seen v = within (pos 1) (pos (lastDayAfter seen)) v
+allowed (R.Span lo hi) seen v = within lo hi v
 
--- the range of a number of a group
-abbrev pub partRange : Part → Range
-partRange p = span (p .low) (p .high)
+-- whether a range goes by the numbers before it, and whether it holds no negative number
+abbrev pub looksBack : Range → Bool
+looksBack R.AsHeld = false
+looksBack R.NotNegative = false
+looksBack R.Day = true
+looksBack (R.Span lo hi) = false
+
+abbrev pub fromZero : Range → Bool
+fromZero R.AsHeld = false
+fromZero R.NotNegative = true
+fromZero R.Day = true
+fromZero (R.Span lo hi) = not (ltZ lo (pos 0))
 
 -- ---- columns
 
@@ -83,22 +124,22 @@ abbrev pub clockTime : Group
 clockTime =
     record {
       mark = 58;
-      first = record { form = N.Integer 2; low = pos 0; high = pos 23 };
-      second = record { form = N.Integer 2; low = pos 0; high = pos 59 };
-      third = record { form = N.Decimal 6 3; low = pos 0; high = pos 59999 };
+      first = record { form = N.Integer 2; range = span (pos 0) (pos 23) };
+      second = record { form = N.Integer 2; range = span (pos 0) (pos 59) };
+      third = record { form = N.Decimal 6 3; range = span (pos 0) (pos 59999) };
     }
 
 abbrev pub clock : Col
 clock = group clockTime
 
--- the date i4/i2/i2: year 0 to 9999, month and day as for E. Document 02, Wish 2
+-- the date i4/i2/i2: year 0 to 9999, month and day as for E. Document 02, Wish 2 and Wish 3
 abbrev pub calendarDate : Group
 calendarDate =
     record {
       mark = 47;
-      first = record { form = N.Integer 4; low = pos 0; high = pos 9999 };
-      second = record { form = N.Integer 2; low = pos 1; high = pos 12 };
-      third = record { form = N.Integer 2; low = pos 1; high = pos 31 };
+      first = record { form = N.Integer 4; range = span (pos 0) (pos 9999) };
+      second = record { form = N.Integer 2; range = span (pos 1) (pos 12) };
+      third = record { form = N.Integer 2; range = calendarDay };
     }
 
 abbrev pub date : Col
@@ -143,12 +184,16 @@ texts (letter s) = 1
 texts (group g) = 0
 texts (blank w) = 0
 
--- well-formed: the forms of numbers are; text has a byte; a group's mark is a mark byte and its numbers are not negative
+-- well-formed: the forms of numbers are; text has a byte; a group's mark is a mark byte, its numbers are not negative, and only the
+-- third may go by those before it
 abbrev pub goodPart : Part → Bool
-goodPart p = goodForm (p .form) && not (ltZ (p .low) (pos 0))
+goodPart p = goodForm (p .form) && fromZero (p .range)
+
+abbrev pub goodAlone : Part → Bool
+goodAlone p = goodPart p && not (looksBack (p .range))
 
 abbrev pub goodGroup : Group → Bool
-goodGroup g = (leb 45 (g .mark) && leb (g .mark) 58) && (goodPart (g .first) && (goodPart (g .second) && goodPart (g .third)))
+goodGroup g = (leb 45 (g .mark) && leb (g .mark) 58) && (goodAlone (g .first) && (goodAlone (g .second) && goodPart (g .third)))
 
 abbrev pub goodCol : Col → Bool
 goodCol (numeric f q g) = goodForm f

@@ -9,7 +9,7 @@ use lib.Dec.{eqb}
 use Rattle.columns.specs.Answer.{pick, Answer, ok, refusal, requiredBlank, badForm, outOfRange, tooWide}
 use Rattle.columns.specs.Bytes.{allBlank}
 use Rattle.columns.specs.Number.{formWidth, fieldOf, holds, zeroFilled}
-use Rattle.columns.specs.Column.{Slot, missing, given, Rec, allowed, partRange, firstWidth, secondStart, secondEnd, thirdStart, groupWidth}
+use Rattle.columns.specs.Column.{Slot, missing, given, Rec, allowed, firstWidth, secondStart, secondEnd, thirdStart, groupWidth}
 use Rattle.columns.specs.declared.number.Field.{Field}
 use Rattle.columns.specs.declared.number.Field.the-variants as F
 use Rattle.columns.specs.declared.group.Group.{Group}
@@ -19,9 +19,9 @@ use Rattle.columns.specs.declared.group.Three.the-variants as T
 -- each in its range, the later ones after the earlier ones
 abbrev pub groupRange : Group → List Slot → ℤ → ℤ → ℤ → Bool
 groupRange g seen x y z =
-    allowed (partRange (g .first)) seen x
-    && (allowed (partRange (g .second)) (seen ++ given x ∷ []) y
-    && allowed (partRange (g .third)) (seen ++ given x ∷ given y ∷ []) z)
+    allowed (g .first .range) seen x
+    && (allowed (g .second .range) (seen ++ given x ∷ []) y
+    && allowed (g .third .range) (seen ++ given x ∷ given y ∷ []) z)
 
 abbrev pub groupRec : Slot → Slot → Slot → Rec
 groupRec x y z = record { numbers = x ∷ y ∷ z ∷ []; chars = [] }

@@ -2,6 +2,7 @@ pub mod Answer
 pub mod Bytes
 pub mod Word
 pub mod Number
+pub mod Calendar
 pub mod Column
 pub mod Group
 pub mod Reading

@@ -9,11 +9,12 @@ use lib.ListN.{length, take, drop, getD}
 use lib.Seq.{slice}
 use lib.Dec.{T, eqb, leb, ltb}
 use Rattle.columns.specs.Answer.{pick, Answer, ok, refusal}
-use Rattle.columns.specs.Column.{Slot, missing, given, Rec, Range, asHeld, notNegative, span, Rule, anyText, noBrackets, notBlankFirst, notAllBlank, blankOrFilled, clockTime, calendarDate, groupWidth, Col, numeric, text, letter, group, blank, width, slots, texts, goodCol, good, widths, allSlots, allTexts, inStretch, bracketsIn}
+use Rattle.columns.specs.Column.{Slot, missing, given, Rec, asHeld, notNegative, calendarDay, span, Rule, anyText, noBrackets, notBlankFirst, notAllBlank, blankOrFilled, clockTime, calendarDate, groupWidth, Col, numeric, text, letter, group, blank, width, slots, texts, goodCol, good, widths, allSlots, allTexts, inStretch, bracketsIn}
 use Rattle.columns.specs.declared.number.Form.{Form}
 use Rattle.columns.specs.declared.number.Form.the-variants as N
 use Rattle.columns.specs.declared.group.Group.{Group}
 use Rattle.columns.specs.declared.column.Column.{Column}
+use Rattle.columns.specs.declared.column.Range.{Range}
 use Rattle.columns.specs.declared.Outcome.{Outcome}
 use Rattle.columns.specs.declared.Outcome.the-variants as O
 
@@ -29,10 +30,12 @@ columnIn row =
       last = row % 128;
     }
 
--- a range by its number: 0 as held, 1 not negative, else the span whose ends stand at that place of the ranges
+-- a range by its number: 0 as held, 1 not negative, 2 a day, else the span whose ends stand at that place of the ranges
 abbrev pub rangeAt : List ℤ → ℕ → Range
 rangeAt rs k =
-    pick (eqb k 0) asHeld (pick (eqb k 1) notNegative (span (getD rs k (pos 0)) (getD rs (k + 1) (pos 0))))
+    pick (eqb k 0) asHeld
+    (pick (eqb k 1) notNegative
+    (pick (eqb k 2) calendarDay (span (getD rs k (pos 0)) (getD rs (k + 1) (pos 0)))))
 
 -- a text's rule by its number
 abbrev pub ruleAt : ℕ → Rule

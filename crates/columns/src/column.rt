@@ -1,17 +1,19 @@
 // A column of a table, one number a column, and the range step.
 use super::bytes::skip_blanks;
+use super::calendar::is_day;
 use super::group::group_at;
 use super::group::group_width;
+use super::number::Field;
 use super::number::Form;
 ghost use mathlib.Core.Path.{_≡_};
-ghost use mathlib.Core.List.{List};
+ghost use mathlib.Core.List.{List, [], _∷_, _++_};
 ghost use Prim.Native.Nat.{_+_, _≤_, _<_};
 ghost use lib.ListN.{length, take, getD};
 ghost use lib.IntN.{pos};
 ghost use lib.Seq.{slice};
-ghost use Rattle.columns.specs.Column.{Slot, within, allowed};
+ghost use Rattle.columns.specs.Column.{Slot, given, slotIn, within, lastDayAfter, allowed};
 ghost use Rattle.columns.specs.Reading.{ruleRefuses, ruleNumber};
-ghost use Rattle.columns.specs.Table.{columnIn, rangeAt, ruleAt, formIn, widthBy, slotsBy, textsBy, slotsOf};
+ghost use Rattle.columns.specs.Table.{columnIn, rangeAt, ruleAt, formIn, widthBy, slotsBy, textsBy, slotOf, slotsOf};
 
 // A row of a table is a sum: a kind; places, the decimals of a number or the place of a set's first letter; widths, the columns;
 // REQUIRED for a number that must be there; and last the range of a number, the rule of a text, the count of a set's letters
@@ -34,10 +36,21 @@ pub const WIDTH: u32 = 256;
 
 pub const REQUIRED: u32 = 128;
 
-// The ranges that every table has; a span is named by the place of its first end among the table's ranges, from 2 on.
+// The ranges that every table has; a span is named by the place of its first end among the table's ranges, from 3 on.
 pub const AS_HELD: u32 = 0;
 
 pub const NOT_NEGATIVE: u32 = 1;
+
+pub const DAY: u32 = 2;
+
+// The numbers that a column may hold: any; from zero on; the days of the month that the two numbers before it name; from one end to
+// the other.
+pub enum Range {
+    AsHeld,
+    NotNegative,
+    Day,
+    Span(i64, i64),
+}
 
 // The rules of text.
 pub const ANY_TEXT: u32 = 0;
@@ -183,9 +196,9 @@ fn end_at(ranges: &[i64], i: usize) -> i64
     0
 }
 
-// Whether a range may hold v, whatever numbers came before it.
+// Whether a range that is no day may hold v, whatever numbers came before it.
 pub fn in_range_at(ranges: &[i64], k: usize, v: i64) -> bool
-    requires { ⌜ k < 128 ⌝ }
+    requires { ⌜ (k < 128) × (k ≡ 2 → ⊥) ⌝ }
     ensures { λ r. ⌜ ((seen : List Slot) → r ≡ allowed (rangeAt (now (ranges .entry)) k) seen v) ⌝ }
 {
     if k == 0 {
@@ -197,10 +210,51 @@ pub fn in_range_at(ranges: &[i64], k: usize, v: i64) -> bool
     in_range(end_at(ranges, k), end_at(ranges, k + 1), v)
 }
 
+// Whether a range may hold v after a year and a month.
+pub fn in_range_after(range: Range, year: i64, month: i64, v: i64) -> bool
+    ensures { λ r. ⌜ ((seen : List Slot) → r ≡ allowed range (seen ++ given year ∷ given month ∷ []) v) ⌝ }
+{
+    match range {
+        Range::AsHeld => true,
+        Range::NotNegative => 0 <= v,
+        Range::Day => is_day(Field::Value(year), Field::Value(month), v),
+        Range::Span(low, high) => in_range(low, high, v),
+    }
+}
+
+// A number of the record.
+fn number_at(flags: &[u8], values: &[i64], i: usize) -> Field
+    requires { ⌜ (i < length (now flags)) × (i < length (now values)) ⌝ }
+    ensures { λ r. ⌜ slotIn r ≡ slotOf (getD (now (flags .entry)) i 0) (getD (now (values .entry)) i (pos 0)) ⌝ }
+{
+    if flags[i] == 0 {
+        return Field::Missing;
+    }
+    Field::Value(values[i])
+}
+
+// Whether v is a day after the first n numbers of the record.
+fn day_after(flags: &[u8], values: &[i64], n: usize, v: i64) -> bool
+    requires { ⌜ (length (now flags) ≡ length (now values)) × (n ≤ length (now flags)) ⌝ }
+    ensures { λ r. ⌜ r ≡ within (pos 1) (pos (lastDayAfter (take n (slotsOf (now (flags .entry)) (now (values .entry)))))) v ⌝ }
+{
+    if n < 2 {
+        return in_range(1, 31, v);
+    }
+    is_day(
+        number_at(flags, values, n - 2),
+        number_at(flags, values, n - 1),
+        v,
+    )
+}
+
 // The range step: whether a column may hold v, after the first n numbers of the record.
 pub fn allows(ranges: &[i64], k: usize, flags: &[u8], values: &[i64], n: usize, v: i64) -> bool
     requires { ⌜ (k < 128) × ((length (now flags) ≡ length (now values)) × (n ≤ length (now flags))) ⌝ }
     ensures { λ r. ⌜ r ≡ allowed (rangeAt (now (ranges .entry)) k) (take n (slotsOf (now (flags .entry)) (now (values .entry)))) v ⌝ }
 {
+    if k == 2 {
+        return day_after(flags, values, n, v);
+    }
     in_range_at(ranges, k, v)
 }

@@ -94,7 +94,7 @@ fn judged(
 
 // A group's column: form 6, ranges 7.
 fn grouped(three: Three, at: usize, g: Group) -> Cell
-    requires { ⌜ at ≤ 4096 ⌝ }
+    requires { ⌜ (at ≤ 4096) × T (goodGroup g) ⌝ }
     ensures { λ r. ⌜ ((seen : List Slot) (f : List ℕ) → cellAnswer r f ≡ judgeGroup g seen at three) ⌝ }
 {
     match three {

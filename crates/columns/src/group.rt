@@ -2,7 +2,8 @@
 use super::Outcome;
 use super::bytes::blanks;
 use super::bytes::skip_blanks;
-use super::column::in_range;
+use super::column::Range;
+use super::column::in_range_after;
 use super::number::Field;
 use super::number::Form;
 use super::number::read_number;
@@ -30,11 +31,10 @@ pub enum Three {
     Bad,
 }
 
-// A number of a group: its form and the ends of its range.
+// A number of a group.
 pub struct Part {
     pub form: Form,
-    pub low: i64,
-    pub high: i64,
+    pub range: Range,
 }
 
 // Three numbers and the mark between them.
@@ -52,18 +52,15 @@ fn clock_time() -> Group
         mark: 58,
         first: Part {
             form: Form::Integer(2),
-            low: 0,
-            high: 23,
+            range: Range::Span(0, 23),
         },
         second: Part {
             form: Form::Integer(2),
-            low: 0,
-            high: 59,
+            range: Range::Span(0, 59),
         },
         third: Part {
             form: Form::Decimal(6, 3),
-            low: 0,
-            high: 59999,
+            range: Range::Span(0, 59999),
         },
     }
 }
@@ -75,18 +72,15 @@ fn calendar_date() -> Group
         mark: 47,
         first: Part {
             form: Form::Integer(4),
-            low: 0,
-            high: 9999,
+            range: Range::Span(0, 9999),
         },
         second: Part {
             form: Form::Integer(2),
-            low: 1,
-            high: 12,
+            range: Range::Span(1, 12),
         },
         third: Part {
             form: Form::Integer(2),
-            low: 1,
-            high: 31,
+            range: Range::Day,
         },
     }
 }
@@ -180,15 +174,19 @@ fn all_three(a: bool, b: bool, c: bool) -> bool
 
 // Three numbers in their ranges.
 pub fn in_group(g: Group, x: i64, y: i64, z: i64) -> bool
+    requires { ⌜ T (goodGroup g) ⌝ }
     ensures { λ r. ⌜ ((seen : List Slot) → r ≡ groupRange g seen x y z) ⌝ }
 {
-    let a = g.first;
-    let b = g.second;
-    let c = g.third;
+    let first = g.first;
+    let second = g.second;
+    let third = g.third;
+    let a = first.range;
+    let b = second.range;
+    let c = third.range;
     all_three(
-        in_range(a.low, a.high, x),
-        in_range(b.low, b.high, y),
-        in_range(c.low, c.high, z),
+        in_range_after(a, x, y, x),
+        in_range_after(b, x, y, y),
+        in_range_after(c, x, y, z),
     )
 }
 

@@ -1,4 +1,5 @@
 // A column of a line judged by its row in a table of integers and text, with nothing stored.
+use super::calendar::is_day;
 use super::column::Column;
 use super::column::DECIMAL;
 use super::column::in_range_at;
@@ -13,24 +14,13 @@ ghost use Prim.Native.Nat.{ℕ, _+_, _/_, _≤_, _<_};
 ghost use lib.ListN.{length};
 ghost use lib.Seq.{slice};
 ghost use lib.Dec.{T};
+ghost use lib.IntN.{pos};
 ghost use Rattle.columns.specs.Answer.{isOk, ok};
-ghost use Rattle.columns.specs.Column.{Slot, allowed, goodCol};
+ghost use Rattle.columns.specs.Column.{Slot, within, lastDayAfter, allowed, goodCol};
 ghost use Rattle.columns.specs.Number.{intField, Quick};
 ghost use Rattle.columns.specs.Reading.{judge, judgeText};
 ghost use Rattle.columns.specs.Table.{rangeAt, ruleAt, colOf};
-ghost use Rattle.columns.specs.Judge.{simpleCol, Judged};
-
-// A number's column: not where it is required and blank, of bad form or out of its range.
-fn number_ok(field: Field, c: Column, ranges: &[i64]) -> bool
-    requires { ⌜ c .last < 128 ⌝ }
-    ensures { λ r. ⌜ ((seen : List Slot) (at : ℕ) → r ≡ isOk (judge (c .required) (allowed (rangeAt (now (ranges .entry)) (c .last)) seen) at field)) ⌝ }
-{
-    match field {
-        Field::Missing => !c.required,
-        Field::Bad => false,
-        Field::Value(v) => in_range_at(ranges, c.last, v),
-    }
-}
+ghost use Rattle.columns.specs.Judge.{simpleCol, isDay, lastDayBefore, Judged};
 
 // Text from place `at` on: not where its rule refuses it.
 fn text_ok(line: &[u8], at: usize, width: usize, rule: usize) -> bool
@@ -67,13 +57,42 @@ fn int_field(line: &[u8], at: usize, width: usize) -> Field
     }
 }
 
+// Whether v is a day of the month before place `at`, after its year: i2 after i4. Only a day that some month lacks looks back.
+fn day_before(line: &[u8], at: usize, v: i64) -> bool
+    requires { ⌜ (6 ≤ at) × (at ≤ length (now line)) ⌝ }
+    ensures { λ r. ⌜ r ≡ within (pos 1) (pos (lastDayBefore (now (line .entry)) at)) v ⌝ }
+{
+    if v < 29 {
+        return 0 < v;
+    }
+    is_day(int_field(line, at - 6, 4), int_field(line, at - 2, 2), v)
+}
+
+// A number's column from place `at` on: not where it is required and blank, of bad form or out of its range.
+fn number_ok(field: Field, line: &[u8], at: usize, c: Column, ranges: &[i64]) -> bool
+    requires { ⌜ (c .last < 128) × ((at ≤ length (now line)) × (c .last ≡ 2 → 6 ≤ at)) ⌝ }
+    ensures { λ r. ⌜ ((seen : List Slot) (k : ℕ) → (c .last ≡ 2 → lastDayAfter seen ≡ lastDayBefore (now (line .entry)) at) → r ≡ isOk (judge (c .required) (allowed (rangeAt (now (ranges .entry)) (c .last)) seen) k field)) ⌝ }
+{
+    match field {
+        Field::Missing => !c.required,
+        Field::Bad => false,
+        Field::Value(v) => {
+            if c.last == 2 {
+                day_before(line, at, v)
+            } else {
+                in_range_at(ranges, c.last, v)
+            }
+        }
+    }
+}
+
 // Whether a column, an integer or text, is accepted after the first `at` bytes. An integer's kind is 0, so the row itself tells.
 pub fn cell_ok(line: &[u8], at: usize, row: u32, c: Column, ranges: &[i64]) -> bool
-    requires { ⌜ (c .kind ≡ row / 16777216) × ((c .last < 128) × (T (goodCol (colOf c (now ranges) [])) × (T (simpleCol (colOf c (now ranges) [])) × (at + c .width ≤ length (now line))))) ⌝ }
-    ensures { λ r. ⌜ Judged (colOf c (now (ranges .entry)) []) (slice at (at + c .width) (now (line .entry))) r ⌝ }
+    requires { ⌜ (c .kind ≡ row / 16777216) × ((c .last < 128) × (T (goodCol (colOf c (now ranges) [])) × (T (simpleCol (colOf c (now ranges) [])) × ((T (isDay (colOf c (now ranges) [])) → 6 ≤ at) × (at + c .width ≤ length (now line)))))) ⌝ }
+    ensures { λ r. ⌜ Judged (colOf c (now (ranges .entry)) []) (slice at (at + c .width) (now (line .entry))) (lastDayBefore (now (line .entry)) at) r ⌝ }
 {
     if row < DECIMAL {
-        return number_ok(int_field(line, at, c.width), c, ranges);
+        return number_ok(int_field(line, at, c.width), line, at, c, ranges);
     }
     text_ok(line, at, c.width, c.last)
 }

@@ -1,6 +1,7 @@
 // Columns and numbers: the lowest of the three layers. A line format is a table of columns; one reader and one writer
 // interpret any table.
 pub mod bytes;
+pub mod calendar;
 pub mod column;
 pub mod cursor;
 pub mod group;

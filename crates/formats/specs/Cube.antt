@@ -9,11 +9,11 @@ use lib.ListN.{length, take, drop, getD}
 use lib.Dec.{eqb, ltb}
 use Rattle.columns.specs.Answer.{pick, Answer, ok, refusal, unless, differs, wrongLength, barredByte, badForm}
 use Rattle.columns.specs.Bytes.{barred}
-use Rattle.columns.specs.Column.{Slot, Rec, Col, integer, text, asHeld, notNegative, required, optional, noBrackets, anyText}
+use Rattle.columns.specs.Column.{Slot, Rec, Col, integer, text, asHeld, notNegative, calendarDay, required, optional, noBrackets, anyText}
 use Rattle.columns.specs.Reading.{readColumns, readPart, nothing}
 use Rattle.columns.specs.Writing.{writeColumns, inPlace}
 use Rattle.columns.specs.Table.{flagsOf, valuesOf, over}
-use Rattle.formats.specs.Ranges.{yearRange, monthRange, dayRange, hourRange, minuteRange, secondRange, latitudeRange, longitudeRange}
+use Rattle.formats.specs.Ranges.{yearRange, monthRange, hourRange, minuteRange, secondRange, latitudeRange, longitudeRange}
 use Rattle.formats.specs.Check.{checkCharacter}
 use Rattle.formats.specs.Link.{typeOf, addressOf, textOf, formed}
 use Rattle.formats.specs.declared.cube.Read.{Read}
@@ -32,10 +32,10 @@ eventColumns =
     text 8 noBrackets
     ∷ text 2 noBrackets
     ∷ text 1 noBrackets
-    -- 14-17 year, 18-19 month, 20-21 day
+    -- 14-17 year, 18-19 month, 20-21 day, which the calendar has (document 02, Wish 3)
     ∷ integer 4 required yearRange
     ∷ integer 2 required monthRange
-    ∷ integer 2 required dayRange
+    ∷ integer 2 required calendarDay
     -- 22-23 hour, 24-25 minute, 26-28 second x 10
     ∷ integer 2 required hourRange
     ∷ integer 2 required minuteRange

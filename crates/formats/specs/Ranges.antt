@@ -1,15 +1,13 @@
 -- The ranges that columns name. Document 01, "The E line" and "The phase line"; degrees are scaled by 10,000.
 use lib.IntN.{pos, negsuc}
-use Rattle.columns.specs.Column.{Range, span}
+use Rattle.columns.specs.Column.{span}
+use Rattle.columns.specs.declared.column.Range.{Range}
 
 abbrev pub yearRange : Range
 yearRange = span (negsuc 998) (pos 6070)
 
 abbrev pub monthRange : Range
 monthRange = span (pos 1) (pos 12)
-
-abbrev pub dayRange : Range
-dayRange = span (pos 1) (pos 31)
 
 abbrev pub hourRange : Range
 hourRange = span (pos 0) (pos 23)

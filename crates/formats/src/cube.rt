@@ -1,7 +1,6 @@
 // CUBE lines: E and DE messages, read and written; a line of any kind read.
 use super::check::check_character;
 use super::link::read_link;
-use super::ranges::DAY;
 use super::ranges::HOUR;
 use super::ranges::LATITUDE;
 use super::ranges::LONGITUDE;
@@ -16,6 +15,7 @@ use columns::bytes::copy_at;
 use columns::bytes::first_barred;
 use columns::column::ANY_TEXT;
 use columns::column::AS_HELD;
+use columns::column::DAY;
 use columns::column::INTEGER;
 use columns::column::NO_BRACKETS;
 use columns::column::NOT_NEGATIVE;

@@ -27,7 +27,7 @@ pub struct Sealed {
 // The columns of a table of integers and text, judged after the first `start` bytes of the line, and the check sum of three bytes of
 // `head` for each: neither waits for the other, so that the processor works at both.
 fn judge_sealed(line: &[u8], start: usize, head: &[u8], rows: &[u32], ranges: &[i64]) -> Sealed
-    requires { ⌜ Judgeable (columnsOf (now rows) (now ranges) [] 0 (length (now rows))) start (length (now line)) × (3 * length (now rows) ≤ length (now head)) ⌝ }
+    requires { ⌜ Judgeable (columnsOf (now rows) (now ranges) [] 0 (length (now rows))) 0 start (length (now line)) × (3 * length (now rows) ≤ length (now head)) ⌝ }
     ensures { λ r. ⌜ Sealing (columnsOf (now (rows .entry)) (now (ranges .entry)) [] 0 (length (now (rows .entry)))) start (now (line .entry)) (3 * length (now (rows .entry))) (now (head .entry)) r ⌝ }
 {
     let mut sum: u16 = 0;

@@ -1,34 +1,31 @@
 // The ranges of specs/Ranges.antt: each is named by the place of its first end.
-pub const YEAR: u32 = 2;
+pub const YEAR: u32 = 3;
 
-pub const MONTH: u32 = 4;
+pub const MONTH: u32 = 5;
 
-pub const DAY: u32 = 6;
+pub const HOUR: u32 = 7;
 
-pub const HOUR: u32 = 8;
+pub const MINUTE: u32 = 9;
 
-pub const MINUTE: u32 = 10;
+pub const SECOND: u32 = 11;
 
-pub const SECOND: u32 = 12;
+pub const LATITUDE: u32 = 13;
 
-pub const LATITUDE: u32 = 14;
+pub const LONGITUDE: u32 = 15;
 
-pub const LONGITUDE: u32 = 16;
+pub const DISTANCE: u32 = 17;
 
-pub const DISTANCE: u32 = 18;
+pub const AZIMUTH: u32 = 19;
 
-pub const AZIMUTH: u32 = 20;
-
-// Places 0 and 1 name no span: they stand for "as held" and "not negative".
-pub const RANGES: [i64; 22] = [
+// Places 0 to 2 name no span: they stand for "as held", "not negative" and "a day".
+pub const RANGES: [i64; 21] = [
     0, // as held
     0, // not negative
+    0, // a day
     -999, // year
     6070,
     1, // month
     12,
-    1, // day
-    31,
     0, // hour
     23,
     0, // minute

@@ -37,14 +37,15 @@ const ROWS: [u32; 10] = [
     INTEGER + 3 * WIDTH + NOT_NEGATIVE, // 34-36 count
 ];
 
-// Where a range stands in the table of ranges; 0 and 1 are no spans.
-const YEAR: u32 = 2;
+// Where a range stands in the table of ranges; 0 to 2 are no spans.
+const YEAR: u32 = 3;
 
-const AZIMUTH: u32 = 4;
+const AZIMUTH: u32 = 5;
 
-const RANGES: [i64; 6] = [
+const RANGES: [i64; 7] = [
     0, // as held
     0, // not negative
+    0, // a day
     -999, // year
     6070,
     0, // azimuth x 10

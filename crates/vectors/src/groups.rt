@@ -182,3 +182,35 @@ fn time_and_place_ends(start: Counts, line: [u8; 90]) -> Counts {
 pub fn range_ends(start: Counts, line: [u8; 90]) -> Counts {
     time_and_place_ends(date_ends(start, line), line)
 }
+
+// The days about the end of each month, from 28 on, of a year.
+fn month_ends(start: Counts, line: [u8; 90]) -> Counts {
+    let mut c = start;
+    let mut month: u64 = 1;
+    while month < 13 {
+        c = about(c, with_number(line, 18, 19, month), 20, 21, 30);
+        month += 1;
+    }
+    c
+}
+
+// The same of a year after or before year 0.
+fn of_year(start: Counts, line: [u8; 90], year: u64) -> Counts {
+    let mut out = with_number(line, 14, 17, year);
+    let c = month_ends(start, out);
+    out[13] = b'-';
+    month_ends(c, out)
+}
+
+// The ends of the months in leap years and others, with the check character that is then right.
+pub fn calendar(start: Counts, line: [u8; 90]) -> Counts {
+    let c = of_year(start, line, 0);
+    let c = of_year(c, line, 3);
+    let c = of_year(c, line, 4);
+    let c = of_year(c, line, 100);
+    let c = of_year(c, line, 400);
+    let c = month_ends(c, with_number(line, 14, 17, 1900));
+    let c = month_ends(c, with_number(line, 14, 17, 2000));
+    let c = month_ends(c, with_number(line, 14, 17, 2023));
+    month_ends(c, with_number(line, 14, 17, 2024))
+}

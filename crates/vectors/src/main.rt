@@ -114,6 +114,8 @@ fn events(start: Counts, line: [u8; 90]) -> Counts {
     let c = close(b"  columns filled, check right", c);
     let c = groups::range_ends(c, line);
     let c = close(b"  ends of ranges, check right", c);
+    let c = groups::calendar(c, line);
+    let c = close(b"  ends of months, check right", c);
     let c = groups::lengths(c, line);
     close(b"  lengths 0 to 90", c)
 }

@@ -162,13 +162,46 @@ fn filled_field(so_far: Reading, slot: usize, first: usize, low: i64, high: i64,
     r
 }
 
+// Each fourth year has a 29 February, but of the full hundreds only each fourth.
+fn is_long(year: i64) -> bool {
+    if year % 4 != 0 {
+        return false;
+    }
+    if year % 100 != 0 {
+        return true;
+    }
+    year % 400 == 0
+}
+
+// How many days a month of a year has.
+fn month_end(year: i64, month: i64) -> i64 {
+    if month == 2 {
+        if is_long(year) {
+            return 29;
+        }
+        return 28;
+    }
+    // up to July the odd months are the longer ones, from August on the even ones
+    if month < 8 {
+        if month % 2 == 0 {
+            return 30;
+        }
+        return 31;
+    }
+    if month % 2 == 0 {
+        return 31;
+    }
+    30
+}
+
 // Year, month, day, hour, minute, second.
 fn time(r: Reading, line: &[u8]) -> Reading
     requires { ⌜ length (now line) ≡ 80 ⌝ }
 {
     let r = field(r, line, true, 0, 14, 17, -999, 6070);
     let r = field(r, line, true, 1, 18, 19, 1, 12);
-    let r = field(r, line, true, 2, 20, 21, 1, 31);
+    let end = month_end(r.values[0], r.values[1]);
+    let r = field(r, line, true, 2, 20, 21, 1, end);
     let r = field(r, line, true, 3, 22, 23, 0, 23);
     let r = field(r, line, true, 4, 24, 25, 0, 59);
     field(r, line, true, 5, 26, 28, 0, 599)

@@ -21,7 +21,7 @@ returns-3 c =
     let z = toZ-ofZ w64 (a .v) (search needs) in
     let zl = toZ-ofZ w64 (c .before .before .end-at .result) (search needs) in
     let zh = toZ-ofZ w64 (c .before .end-at2 .result) (search needs) in
-    λ seen. rw (z, zl, zh) at (c .in-range .ensures) ∙ rw (c .before .before .end-at .ensures, c .before .end-at2 .ensures) (allowed-span (a .ranges .now) (a .k) seen (a .v) (c .before .before .before .before .if1 .left) (c .before .before .before .if2 .left))
+    λ seen. rw (z, zl, zh) at (c .in-range .ensures) ∙ rw (c .before .before .end-at .ensures, c .before .end-at2 .ensures) (allowed-span (a .ranges .now) (a .k) seen (a .v) (c .before .before .before .before .if1 .left) (c .before .before .before .if2 .left) (c .before .before .before .before .before .pre .1))
 
 pub in-range-at-spec : {M : Type 1} → statement M
 in-range-at-spec =

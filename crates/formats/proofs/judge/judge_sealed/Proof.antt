@@ -8,7 +8,7 @@ use Prim.Native.Nat.{_≤_, _-_, _+_, _*_}
 use lib.ListN.{length, drop}
 use Rattle.columns.specs.Table.{columnsOf}
 use Rattle.columns.specs.declared.column.Column.{Column}
-use Rattle.columns.proofs.laws.Judge.{Left, left-start, left-row, left-last, left-end, left-good, left-simple, left-fits, left-refused, left-next, simple-width}
+use Rattle.columns.proofs.laws.Judge.{Left, left-start, left-row, left-last, left-end, left-good, left-simple, left-room, left-fits, left-refused, left-next, simple-width}
 use Rattle.formats.specs.Check.{checkSum}
 use Rattle.formats.proofs.judge.judge_sealed.Statement.{statement}
 use Rattle.formats.proofs.judge.judge_sealed.Tie as tie
@@ -34,7 +34,7 @@ cell-ok-requires c κs =
     let l = c .before .before .before .loop in
     let x = c .column-in in
     let g = left-row (a .rows .now) (a .ranges .now) [] (l .i) (length (a .rows .now)) (x .result) (c .before .before .loop-test .taken) (x .ensures .0) (l .inv .2) in
-    (ap (λ (k : Column). k .kind) (x .ensures .0), (x .ensures .1 .1, (left-good g .0, (left-simple g .0, omega (arith, left-fits g, simple-width (x .result) (a .ranges .now) [] (left-simple g .0))))))
+    (ap (λ (k : Column). k .kind) (x .ensures .0), (x .ensures .1 .1, (left-good g .0, (left-simple g, (left-room g, omega (arith, left-fits g, simple-width (x .result) (a .ranges .now) [] (left-simple g)))))))
 
 returns : tie.Need-returns Inv-loop μ-loop
 returns c =
@@ -43,7 +43,7 @@ returns c =
     let x = c .before .before .column-in in
     let g = left-row (a .rows .now) (a .ranges .now) [] (l .i) (length (a .rows .now)) (x .result) (c .before .before .before .before .loop-test .taken) (x .ensures .0) (l .inv .2) in
     record {
-      columns = left-refused g _ (simple-width (x .result) (a .ranges .now) [] (left-simple g .0)) (rw (not-true (c .before .cell-ok .result) (c .if1 .taken)) at (c .before .cell-ok .ensures));
+      columns = left-refused g _ (simple-width (x .result) (a .ranges .now) [] (left-simple g)) (rw (not-true (c .before .cell-ok .result) (c .if1 .taken)) at (c .before .cell-ok .ensures));
       sum = λ e. absurd (false≢true e);
     }
 
@@ -53,7 +53,7 @@ add-at c =
     let l = c .before .before .before .before .before .before .before .loop in
     let x = c .before .before .before .before .column-in in
     let g = left-row (a .rows .now) (a .ranges .now) [] (l .i) (length (a .rows .now)) (x .result) (c .before .before .before .before .before .before .loop-test .taken) (x .ensures .0) (l .inv .2) in
-    omega (arith, left-fits g, simple-width (x .result) (a .ranges .now) [] (left-simple g .0))
+    omega (arith, left-fits g, simple-width (x .result) (a .ranges .now) [] (left-simple g))
 
 loop-again : tie.Need-loop-again Inv-loop μ-loop
 loop-again c =
@@ -64,7 +64,7 @@ loop-again c =
     let z : 3 * l .i + 3 ≡ 3 * (l .i + 1) = omega arith in (
       search needs,
       rw z at (c .before .with-three .ensures) ∙ l .inv .1,
-      left-next g _ (simple-width (x .result) (a .ranges .now) [] (left-simple g .0)) (rw (not-false (c .before .before .before .cell-ok .result) (c .before .before .if1 .left)) at (c .before .before .before .cell-ok .ensures)),
+      left-next g _ (simple-width (x .result) (a .ranges .now) [] (left-simple g)) (rw (not-false (c .before .before .before .cell-ok .result) (c .before .before .if1 .left)) at (c .before .before .before .cell-ok .ensures)),
     )
 
 returns-2 : tie.Need-returns-2 Inv-loop μ-loop

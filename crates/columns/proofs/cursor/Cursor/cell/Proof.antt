@@ -101,8 +101,10 @@ group-requires c κs =
 
 grouped-requires : tie.Need-grouped-requires
 grouped-requires c κs =
+    let a = c .before .before .before .before .before .before .before .before .before .before .before .args in
     let p = c .before .before .before .before .before .before .before .before .before .before .before .pre .1 .1 in
-    omega (arith, p .fits, p .low)
+    let e = col-group (a .c) (a .ranges .now) (a .letters .now) (c .before .before .before .if5 .taken) in
+    (omega (arith, p .fits, p .low), rw (c .before .before .group-at .ensures) (good-of-group (groupAt (a .c .last)) (colOf (a .c) (a .ranges .now) (a .letters .now)) e (p .fine)))
 
 returns-5 : tie.Need-returns-5
 returns-5 c =
