@@ -1,6 +1,7 @@
 /* The catalogue's C calls against plain C of the same rules, in one run. Built and run by bench/run. Before anything is timed, both
    take the same pseudo-random lines and judge the same damaged rooms; a difference prints the input and ends the program with 1. */
 #include "rotmibel.h"
+#include "calendar.h"
 #include <stdio.h>
 #include <stdlib.h>
 #include <string.h>
@@ -18,6 +19,7 @@
 /* ---- plain C, as a careful engineer would write it */
 
 typedef struct { uint8_t col, width, required; int32_t lo, hi; } field;
+enum { YEAR, MONTH, DAY }; /* where the table has the date; the calendar says which of the 31 days a month has */
 static const field fields[19] = {
     {14, 4, 1, -999, 6070}, {18, 2, 1, 1, 12}, {20, 2, 1, 1, 31}, {22, 2, 1, 0, 23}, {24, 2, 1, 0, 59}, {26, 3, 1, 0, 599},
     {29, 7, 1, -900000, 900000}, {36, 8, 1, -1800000, 1800000}, {44, 4, 0, -999, 9999}, {48, 2, 0, -9, 99}, {50, 3, 0, 0, 999},
@@ -46,6 +48,19 @@ static inline int int_field(const uint8_t *p, int w, int32_t *out) {
     return 0;
 }
 
+/* fields k to last and their values: 0, or the first refusal */
+static inline uint64_t read_fields(const uint8_t *p, int k, int last, int32_t *values) {
+    for (; k <= last; k++) {
+        int32_t v = 0;
+        int r = int_field(p + fields[k].col - 1, fields[k].width, &v);
+        if (r == 1 && fields[k].required) return answered(5, fields[k].col);
+        if (r == 2) return answered(6, fields[k].col);
+        if (r == 0 && (v < fields[k].lo || v > fields[k].hi)) return answered(7, fields[k].col);
+        values[k] = v;
+    }
+    return 0;
+}
+
 /* an E line of 80 bytes after its type: 0, or its refusal */
 static uint64_t event_refusal(const uint8_t *p) {
     uint16_t sum = 0;
@@ -56,14 +71,11 @@ static uint64_t event_refusal(const uint8_t *p) {
         sum = (uint16_t)(sum + b);
     }
     if (p[79] != 36 + sum % 91) return answered(9, 80);
-    for (int k = 0; k < 19; k++) {
-        int32_t v = 0;
-        int r = int_field(p + fields[k].col - 1, fields[k].width, &v);
-        if (r == 1 && fields[k].required) return answered(5, fields[k].col);
-        if (r == 2) return answered(6, fields[k].col);
-        if (r == 0 && (v < fields[k].lo || v > fields[k].hi)) return answered(7, fields[k].col);
-    }
-    return 0;
+    int32_t values[19];
+    uint64_t r = read_fields(p, YEAR, DAY, values);
+    if (r) return r;
+    if (values[DAY] > days_in(values[YEAR], values[MONTH])) return answered(7, fields[DAY].col);
+    return read_fields(p, DAY + 1, 18, values);
 }
 
 /* the lowest barred byte, brackets barred in columns 3 to the last of the version: 0, or its refusal */
@@ -325,14 +337,16 @@ static void put_name(uint8_t *l, unsigned k, uint8_t version) {
 /* An acceptable E line; its numbers follow from the variant alone. */
 static void make_event(uint8_t *l, unsigned k, uint8_t version, unsigned variant) {
     uint32_t s = 2654435761u * (variant + 1);
+    int32_t values[19];
     memset(l, ' ', 80);
     l[0] = 'E';
     put_name(l, k, version);
     for (int f = 0; f < 19; f++) {
         s = s * 1664525u + 1013904223u;
         if (!fields[f].required && s >> 29 == 0) continue;
-        uint32_t span = (uint32_t)(fields[f].hi - fields[f].lo + 1);
-        put_number(l + fields[f].col - 1, fields[f].width, fields[f].lo + (int32_t)((s >> 4) % span), variant % 2 ? '0' : ' ');
+        int32_t lo = fields[f].lo, hi = f == DAY ? days_in(values[YEAR], values[MONTH]) : fields[f].hi;
+        values[f] = lo + (int32_t)((s >> 4) % (uint32_t)(hi - lo + 1));
+        put_number(l + fields[f].col - 1, fields[f].width, values[f], variant % 2 ? '0' : ' ');
     }
     l[73] = "LBw "[variant % 4];
     l[78] = "h []"[variant % 4];
@@ -361,11 +375,19 @@ static size_t make_link(uint8_t *l, unsigned k, uint8_t version) {
     return n;
 }
 
+/* The date of an E line made a day at the end of a month; about a third of these days are not in the calendar. */
+static void put_month_end(uint8_t *l) {
+    static const int years[8] = {-400, -100, -4, -1, 0, 1900, 2000, 2024};
+    put_number(l + fields[YEAR].col - 1, 4, years[next(8)], '0');
+    put_number(l + fields[MONTH].col - 1, 2, next(2) ? 2 : 1 + (int)next(12), '0');
+    put_number(l + fields[DAY].col - 1, 2, 28 + (int)next(4), '0');
+}
+
 /* A line damaged in one of several ways, not all of which make it a refused one; its length. */
 #define PLACES 300
 static size_t damage(uint8_t *l, size_t n) {
     const field *f = &fields[next(19)];
-    unsigned kind = next(11);
+    unsigned kind = next(12);
     switch (kind) {
     case 0: case 1: l[next((unsigned)n)] = (uint8_t)next(256); break;
     case 2: l[next(2) ? 2 + next(14) : next((unsigned)n)] = next(2) ? '[' : ']'; break;
@@ -376,6 +398,7 @@ static size_t damage(uint8_t *l, size_t n) {
         if (n == 80) for (int i = 0; i < f->width; i++) l[f->col - 1 + i] = (uint8_t)"0123456789-+ ."[next(kind == 4 ? 10 : 14)];
         break;
     case 6: if (n == 80) put_number(l + f->col - 1, f->width, next(2) ? f->hi + (int)next(2) : f->lo - (int)next(2), '0'); break;
+    case 11: if (n == 80) put_month_end(l); break;
     case 7: memset(l + n, ' ', PLACES - n); n = next(3) ? next(next(2) ? 100 : PLACES) : n + 1 - 2 * next(2); break;
     default: l[next(2)] = (uint8_t)"ED LI\n"[next(6)];
     }
@@ -507,7 +530,7 @@ static void fill_rooms(int with_held, int with_gone, int with_links) {
 static void change(uint8_t *p, const uint8_t *likely, unsigned n) { *p = next(2) ? likely[next(n)] : (uint8_t)(*p + 1 - 2 * next(2)); }
 
 /* A kept room with one byte or count changed, at times the check character of the held line that was hit made good; or with a byte
-   repeated after its entries, or the type of a held line or link made DE. */
+   repeated after its entries, the type of a held line or link made DE, or the date of a held line a day at the end of a month. */
 static void compare_damaged(void) {
     static const uint8_t likely[] = {0, 1, ' ', '0', '1', '2', '~', 127, '[', ']', 128, 255};
     const uint8_t *from = kept[next(kept_rooms)];
@@ -541,6 +564,7 @@ static void compare_damaged(void) {
         if (s.n == 0) break;
         p = s.held + HELD * next(s.n);
         if (!next(16)) memcpy(p, "DE", 2);
+        else if (!next(8)) put_month_end(p);
         else change(p + (next(2) ? next(HELD) : 2 + next(11)), likely, sizeof likely);
         if (next(4)) seal(p);
     }

@@ -1,6 +1,7 @@
 /* The ISF phase line and the automatic arrival line in plain C, as a careful engineer would write them: the same rules, answers and records
    as the library. One reader and one writer over a table of fields serve both; PER_FORMAT has the compiler make them anew for each format. */
 #include "rotmibel.h"
+#include "calendar.h"
 #include <string.h>
 
 #define PER_FORMAT static inline __attribute__((always_inline))
@@ -68,7 +69,7 @@ static unsigned date_field(const uint8_t *p, int64_t *v, int *there) {
     *there = 0;
     if (blank(p, 10)) return 0;
     if (p[4] != '/' || p[7] != '/' || number_field(p, 4, 0, v) || number_field(p + 5, 2, 0, v + 1) || number_field(p + 8, 2, 0, v + 2)) return 6;
-    if (v[0] < 0 || v[0] > 9999 || v[1] < 1 || v[1] > 12 || v[2] < 1 || v[2] > 31) return 7;
+    if (v[0] < 0 || v[0] > 9999 || v[1] < 1 || v[1] > 12 || v[2] < 1 || v[2] > days_in((int)v[0], (int)v[1])) return 7;
     *there = 1;
     return 0;
 }
@@ -175,7 +176,7 @@ static void put_field(uint8_t *cell, unsigned w, unsigned d, int64_t v, uint8_t 
 
 static unsigned put_date(uint8_t *cell, int64_t y, int64_t m, int64_t d) {
     if (too_wide(y, 4, 0) || too_wide(m, 2, 0) || too_wide(d, 2, 0)) return 10;
-    if (y < 0 || y > 9999 || m < 1 || m > 12 || d < 1 || d > 31) return 7;
+    if (y < 0 || y > 9999 || m < 1 || m > 12 || d < 1 || d > days_in((int)y, (int)m)) return 7;
     put_field(cell, 4, 0, y, '0');
     cell[4] = '/';
     put_field(cell + 5, 2, 0, m, '0');

@@ -1,6 +1,7 @@
 /* E and LI lines read through the library's C call, against a plain C reader of the same rules that fills the same record, in one run.
    Built and run by bench/run. Both readers are checked to give the same answers and records on every line before anything is timed. */
 #include "rotmibel.h"
+#include "calendar.h"
 #include <stdio.h>
 #include <stdlib.h>
 #include <string.h>
@@ -12,6 +13,7 @@
 /* ---- a plain C reader, as a careful engineer would write it */
 
 typedef struct { uint8_t col, width, required; int32_t lo, hi; } field;
+enum { YEAR, MONTH, DAY }; /* where the table has the date; the calendar says which of the 31 days a month has */
 static const field fields[19] = {
     {14, 4, 1, -999, 6070}, {18, 2, 1, 1, 12}, {20, 2, 1, 1, 31}, {22, 2, 1, 0, 23}, {24, 2, 1, 0, 59}, {26, 3, 1, 0, 599},
     {29, 7, 1, -900000, 900000}, {36, 8, 1, -1800000, 1800000}, {44, 4, 0, -999, 9999}, {48, 2, 0, -9, 99}, {50, 3, 0, 0, 999},
@@ -35,6 +37,20 @@ static inline int int_field(const uint8_t *p, int w, int32_t *out) {
         v = v * 10 + (int32_t)d;
     }
     *out = neg ? -v : v;
+    return 0;
+}
+
+/* Fields k to last, their values and flags: 0, or the first refusal. */
+static inline uint64_t read_fields(const uint8_t *p, int k, int last, int32_t *values, uint8_t *flags) {
+    for (; k <= last; k++) {
+        int32_t v = 0;
+        int r = int_field(p + fields[k].col - 1, fields[k].width, &v);
+        if (r == 1 && fields[k].required) return refused(5, fields[k].col);
+        if (r == 2) return refused(6, fields[k].col);
+        if (r == 0 && (v < fields[k].lo || v > fields[k].hi)) return refused(7, fields[k].col);
+        flags[k] = r == 0;
+        values[k] = v;
+    }
     return 0;
 }
 
@@ -73,15 +89,11 @@ static uint64_t plain_read(const uint8_t *p, size_t n, uint8_t *record, size_t r
     if (p[79] != 36 + sum % 91) return refused(9, 80);
     int32_t values[19];
     uint8_t flags[19];
-    for (int k = 0; k < 19; k++) {
-        int32_t v = 0;
-        int r = int_field(p + fields[k].col - 1, fields[k].width, &v);
-        if (r == 1 && fields[k].required) return refused(5, fields[k].col);
-        if (r == 2) return refused(6, fields[k].col);
-        if (r == 0 && (v < fields[k].lo || v > fields[k].hi)) return refused(7, fields[k].col);
-        flags[k] = r == 0;
-        values[k] = v;
-    }
+    uint64_t r = read_fields(p, YEAR, DAY, values, flags);
+    if (r) return r;
+    if (values[DAY] > days_in(values[YEAR], values[MONTH])) return refused(7, fields[DAY].col);
+    r = read_fields(p, DAY + 1, 18, values, flags);
+    if (r) return r;
     memset(record, 0, ROTMIBEL_RECORD);
     record[0] = ROTMIBEL_EVENT;
     memcpy(record + 1, flags, 19);
@@ -109,14 +121,15 @@ static void seal(char *l) {
 typedef size_t maker(char *, unsigned);
 
 static size_t make_event(char *l, unsigned k) {
+    unsigned year = 1990 + next(40), month = 1 + next(12), day = 1 + next((unsigned)days_in((int)year, (int)month));
     if (k % 2)
-        snprintf(l, 81, "E %08uCI%c%04u%02u%02u%02u%02u%03u%07d%08d%04u%02u%03u%03u%04u%04u%04u%04u%02uL%02u%02uh ", next(100000000), '0' + next(10),
-                 1990 + next(40), 1 + next(12), 1 + next(28), next(24), next(60), next(600), (int)next(1800000) - 900000,
+        snprintf(l, ROTMIBEL_LINE + 1, "E %08uCI%c%04u%02u%02u%02u%02u%03u%07d%08d%04u%02u%03u%03u%04u%04u%04u%04u%02uL%02u%02uh ",
+                 next(100000000), '0' + next(10), year, month, day, next(24), next(60), next(600), (int)next(1800000) - 900000,
                  (int)next(3600000) - 1800000, next(9999), next(99), next(999), next(999), next(9999), next(9999), next(9999), next(9999),
                  next(99), next(99), next(99));
     else
-        snprintf(l, 81, "E %-8uUS%c%4u%2u%2u%2u%2u%3u%7d%8d%4u%2u%3u%3u%4u%4u        %2uB%2u    ", next(1000000), 'A' + next(26),
-                 1990 + next(40), 1 + next(12), 1 + next(28), next(24), next(60), next(600), (int)next(1800000) - 900000,
+        snprintf(l, ROTMIBEL_LINE + 1, "E %-8uUS%c%4u%2u%2u%2u%2u%3u%7d%8d%4u%2u%3u%3u%4u%4u        %2uB%2u    ", next(1000000),
+                 'A' + next(26), year, month, day, next(24), next(60), next(600), (int)next(1800000) - 900000,
                  (int)next(3600000) - 1800000, next(999), next(99), next(99), next(99), next(9999), next(999), next(99), next(9));
     seal(l);
     if (k % 8 == 7) l[next(80)] ^= (char)(1 + next(7));

@@ -16,15 +16,27 @@ static void say_ratio(const char *unit, double scale, double plain, double libra
     printf("  ratio      %7.2f\n", library / plain);
 }
 
+static void make_date(int32_t *v) {
+    v[0] = between(0, 9999);
+    v[1] = between(1, 12);
+    v[2] = between(1, days_in(v[0], v[1]));
+}
+
+static void make_time(int32_t *v) {
+    v[0] = between(0, 23);
+    v[1] = between(0, 59);
+    v[2] = between(0, 59999);
+}
+
 /* A record that has a line: about a third of its numbers are missing. */
 static void make_record(const row_format *row, uint8_t *record) {
     static const char texts[] = "ABCDEFGHIJKLMNOPQRSTUVWXYZabcdefgh  0123456789";
-    static const int32_t dates[3][2] = {{0, 9999}, {1, 12}, {1, 31}}, times[3][2] = {{0, 23}, {0, 59}, {0, 59999}};
     unsigned number = 0, text = 1 + 9 * row->numbers;
     memset(record, 0, row->size);
     record[0] = (uint8_t)row->kind;
     for (const row_field *f = row->fields; f < row->fields + row->count; f++) {
-        unsigned w = f->last - f->first + 1u, there;
+        unsigned w = f->last - f->first + 1u;
+        int32_t v[3];
         switch (f->kind) {
         case DECIMAL:
             if (next(3) != 0) put_number(row, record, number, between(f->lo, f->hi));
@@ -32,10 +44,9 @@ static void make_record(const row_format *row, uint8_t *record) {
             continue;
         case DATE:
         case TIME:
-            there = next(8) != 0;
-            for (unsigned i = 0; there && i < 3; i++) {
-                const int32_t *ends = f->kind == DATE ? dates[i] : times[i];
-                put_number(row, record, number + i, between(ends[0], ends[1]));
+            if (next(8) != 0) {
+                if (f->kind == DATE) make_date(v); else make_time(v);
+                for (unsigned i = 0; i < 3; i++) put_number(row, record, number + i, v[i]);
             }
             number += 3;
             continue;
