@@ -21,6 +21,13 @@ impl Group {
         returned
     }
 
+    /// That each of these answers was met.
+    pub fn has_met(&mut self, answers: &[u8]) {
+        for &a in answers {
+            self.same((a, self.answers[a as usize] > 0), (a, true), &[]);
+        }
+    }
+
     /// Compares what a call gave with what the second implementation says; on a difference prints the input.
     pub fn same<T: PartialEq + std::fmt::Debug>(&mut self, got: T, wanted: T, input: &[&[u8]]) {
         self.calls += 1;

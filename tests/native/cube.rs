@@ -1,4 +1,6 @@
-//! CUBE lines and their records, after document 01 ("The E line", "The DE line", "Order") and docs/RECORDS.md; the LI line is in link.rs.
+//! CUBE lines and their records, after document 01 ("The E line", "The DE line", "Order"), document 02 ("No thirtieth of February") and
+//! docs/RECORDS.md; the LI line is in link.rs.
+use crate::calendar::days;
 use crate::link;
 use crate::number::*;
 
@@ -33,6 +35,11 @@ const NUMBERS: [(usize, usize, bool, i64, i64); 19] = [
     (77, 78, false, 0, i64::MAX),
 ];
 
+/// The numbers of the date by their place in the table.
+pub const YEAR: usize = 0;
+pub const MONTH: usize = 1;
+pub const DAY: usize = 2;
+
 /// The text columns of an E line, first and last, in the order of the record.
 const TEXTS: [(usize, usize); 5] = [(3, 10), (11, 12), (13, 13), (74, 74), (79, 79)];
 
@@ -65,6 +72,22 @@ pub fn read_line(line: &[u8]) -> Result<Vec<u8>, Refusal> {
     }
 }
 
+/// A number of an event's record.
+fn number(record: &[u8], i: usize) -> i64 {
+    i64::from_be_bytes(record[20 + 8 * i..28 + 8 * i].try_into().unwrap())
+}
+
+pub fn put(record: &mut [u8], i: usize, v: i64) {
+    record[1 + i] = 1;
+    record[20 + 8 * i..28 + 8 * i].copy_from_slice(&v.to_be_bytes());
+}
+
+/// Whether a number is in its range and, where it is a day, exists: year and month stand before it and were in theirs.
+fn in_range(record: &[u8], i: usize, v: i64) -> bool {
+    let (_, _, _, low, high) = NUMBERS[i];
+    (low..=high).contains(&v) && (i != DAY || v <= days(number(record, YEAR), number(record, MONTH)))
+}
+
 fn read_event(line: &[u8]) -> Result<Vec<u8>, Refusal> {
     if line.len() != EVENT_LINE {
         return Err((LENGTH, 0));
@@ -77,16 +100,13 @@ fn read_event(line: &[u8]) -> Result<Vec<u8>, Refusal> {
     }
     let mut record = vec![0; RECORD];
     record[0] = 1;
-    for (i, &(first, last, required, low, high)) in NUMBERS.iter().enumerate() {
+    for (i, &(first, last, required, ..)) in NUMBERS.iter().enumerate() {
         match read_int(&line[first - 1..last]) {
             Ok(None) if required => return Err((REQUIRED, first)),
             Ok(None) => {}
             Err(()) => return Err((FORM, first)),
-            Ok(Some(v)) if v < low || high < v => return Err((RANGE, first)),
-            Ok(Some(v)) => {
-                record[1 + i] = 1;
-                record[20 + 8 * i..28 + 8 * i].copy_from_slice(&v.to_be_bytes());
-            }
+            Ok(Some(v)) if !in_range(&record, i, v) => return Err((RANGE, first)),
+            Ok(Some(v)) => put(&mut record, i, v),
         }
     }
     let mut at = 172;
@@ -163,18 +183,18 @@ fn write_event(record: &[u8], room: usize) -> Result<Vec<u8>, Refusal> {
             }
             cell
         } else {
-            let (_, _, required, low, high) = NUMBERS[which];
+            let (_, _, required, ..) = NUMBERS[which];
             if record[1 + which] == 0 {
                 if required {
                     return Err((REQUIRED, first));
                 }
                 vec![b' '; w]
             } else {
-                let v = i64::from_be_bytes(record[20 + 8 * which..28 + 8 * which].try_into().unwrap());
+                let v = number(record, which);
                 if !holds_int(v, w) {
                     return Err((WIDE, first));
                 }
-                if v < low || high < v {
+                if !in_range(record, which, v) {
                     return Err((RANGE, first));
                 }
                 write_int(v, w)

@@ -6,13 +6,22 @@ use crate::row::Field;
 use crate::rows::{compare_read, compare_write, File, ARRIVALS};
 
 /// A record with every number, and the line of it.
-fn full_record(r: &mut Rng) -> (Vec<u8>, Vec<u8>) {
+pub fn full_record(r: &mut Rng) -> (Vec<u8>, Vec<u8>) {
     let mut rec = make::good_record(r, &ARRIVAL);
     for (i, v) in [1996, 8, 16, 3, 41, 40523, 2563, 162, 134, 2286, 33, 45, 2, 244453, 1217783, 370, 0].into_iter().enumerate() {
         ARRIVAL.put(&mut rec, i, v);
     }
     let line = ARRIVAL.write_line(&rec, ARRIVAL.width).unwrap();
     (rec, line)
+}
+
+/// The record with another date.
+pub fn dated_record(rec: &[u8], date: [i64; 3]) -> Vec<u8> {
+    let mut rec = rec.to_vec();
+    for (i, v) in date.into_iter().enumerate() {
+        ARRIVAL.put(&mut rec, i, v);
+    }
+    rec
 }
 
 pub fn arrival_edges(r: &mut Rng) -> Group {
@@ -30,8 +39,10 @@ pub fn arrival_edges(r: &mut Rng) -> Group {
 
 /// Every choice of a year, a month, a day and marks, also with another fault before or behind the date.
 fn dates_read(g: &mut Group, line: &[u8]) {
-    let years = ["0000", "9999", "-000", "-001", "-999", " 996", "   0", "  -0", "    ", "0  0", "199 ", "+199", "19.6", "--19", "   -"];
-    let parts = ["00", "01", "12", "13", "28", "29", "30", "31", "32", "99", "-1", "-0", " 0", " 8", "  ", "8 ", "+8", "x8", " -"];
+    let years = [
+        "0000", "9999", "1900", "2000", "-000", "-001", "-999", " 996", "   0", "  -0", "    ", "0  0", "199 ", "+199", "19.6", "--19", "   -",
+    ];
+    let parts = ["00", "01", "02", " 4", "12", "13", "28", "29", "30", "31", "32", "99", "-1", "-0", " 0", " 8", "  ", "8 ", "+8", "x8", " -"];
     let marks = [*b"//", *b"-/", *b"/-", *b"--", *b"  ", *b"/ ", *b" /", *b"::"];
     let faults: [(usize, &[u8]); 7] = [(0, b""), (0, b" "), (10, b"     "), (28, b"x"), (39, b"/"), (40, b"24:"), (150, b"\x1f")];
     for (at, fault) in faults {
@@ -51,8 +62,8 @@ fn dates_read(g: &mut Group, line: &[u8]) {
 
 /// Numbers of a date that are written, out of range or too wide, also behind a blank station.
 fn dates_written(g: &mut Group, rec: &[u8]) {
-    let years = [i64::MIN, -10000, -1000, -999, -1, 0, 996, 9999, 10000, i64::MAX];
-    let parts = [i64::MIN, -10, -9, -1, 0, 1, 8, 12, 13, 31, 32, 99, 100, i64::MAX];
+    let years = [i64::MIN, -10000, -1000, -999, -1, 0, 996, 1900, 9999, 10000, i64::MAX];
+    let parts = [i64::MIN, -10, -9, -1, 0, 1, 2, 8, 11, 12, 13, 28, 29, 30, 31, 32, 99, 100, i64::MAX];
     let mut blank = rec.to_vec();
     let station = ARRIVAL.placed().find(|f| matches!(f.field, Field::Filled)).unwrap();
     blank[station.at..station.at + station.width()].fill(b' ');
@@ -60,11 +71,7 @@ fn dates_written(g: &mut Group, rec: &[u8]) {
         for year in years {
             for month in parts {
                 for day in parts {
-                    let mut rec = from.to_vec();
-                    for (i, v) in [year, month, day].into_iter().enumerate() {
-                        ARRIVAL.put(&mut rec, i, v);
-                    }
-                    compare_write(g, &ARRIVALS, &rec, &[7; ARRIVAL.width]);
+                    compare_write(g, &ARRIVALS, &dated_record(from, [year, month, day]), &[7; ARRIVAL.width]);
                 }
             }
         }

@@ -118,7 +118,7 @@ pub fn example_lines(r: &mut Rng, example: &Example) -> Group {
                         all.about(line, from, f.last, d, n);
                     }
                 }
-                Field::Marked(mark, _) => all.marked(line, f.first, mark),
+                Field::Marked(moment) => all.marked(line, f.first, moment.mark),
                 _ => {}
             }
         }

@@ -1,6 +1,8 @@
-//! The file formats as tables: document 01's phase line, and document 02's automatic arrivals by the table of document 003.
+//! The file formats as tables: document 01's phase line, and document 02's automatic arrivals by the table of document 003, the days of
+//! their dates by "No thirtieth of February".
+use crate::calendar::days;
 use crate::row::Field::{self, *};
-use crate::row::{Format, Part};
+use crate::row::{Format, Moment, Part};
 
 const fn dec(d: usize) -> Field {
     Dec(d, i64::MIN, i64::MAX)
@@ -12,8 +14,16 @@ const fn int(width: usize, low: i64, high: i64) -> Part {
 const AZIMUTH: Field = Dec(1, 0, 3600);
 const LATITUDE: Field = Dec(4, -900000, 900000);
 const LONGITUDE: Field = Dec(4, -1800000, 1800000);
-const TIME: Field = Marked(b':', &[int(2, 0, 23), int(2, 0, 59), Part { width: 6, decimals: Some(3), low: 0, high: 59999 }]);
-const DATE: Field = Marked(b'/', &[int(4, 0, 9999), int(2, 1, 12), int(2, 1, 31)]);
+const TIME: Field = Marked(&Moment {
+    mark: b':',
+    parts: [int(2, 0, 23), int(2, 0, 59), Part { width: 6, decimals: Some(3), low: 0, high: 59999 }],
+    exists: |_| true,
+});
+const DATE: Field = Marked(&Moment {
+    mark: b'/',
+    parts: [int(4, 0, 9999), int(2, 1, 12), int(2, 1, 31)],
+    exists: |date| date[2] <= days(date[0], date[1]),
+});
 
 pub const PHASE: Format = Format::new(
     3,

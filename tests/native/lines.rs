@@ -5,7 +5,7 @@ use crate::rooms::compare_take;
 use crate::rows::{compare_read, ARRIVALS, PHASES};
 use crate::{calls, cube, link, make, room};
 
-fn compare_cube(g: &mut Group, line: &[u8], out: &[u8]) {
+pub fn compare_cube(g: &mut Group, line: &[u8], out: &[u8]) {
     let wanted = written(record_of(cube::read_line(line), cube::RECORD, out.len()), out, 0, |n| n as u64);
     let got = calls::read_line(line, out);
     g.met(got.0);
@@ -66,7 +66,7 @@ fn line_place(r: &mut Rng, rec: &[u8]) -> Vec<u8> {
     place_for(r, size)
 }
 
-fn compare_writing(g: &mut Group, rec: &[u8], out: &[u8]) {
+pub fn compare_writing(g: &mut Group, rec: &[u8], out: &[u8]) {
     let wanted = written(cube::write_line(rec, out.len()), out, 0, |n| n as u64);
     let got = calls::write_line(rec, out);
     g.met(got.0);

@@ -2,9 +2,11 @@
 //! Prints one line for each group, each difference with its input, and last `N passed, M failed`.
 mod block;
 mod blocks;
+mod calendar;
 mod calls;
 mod compare;
 mod cube;
+mod days;
 mod edges;
 mod example;
 mod examples;
@@ -20,6 +22,7 @@ mod rows;
 
 use blocks::*;
 use compare::{parts, Group};
+use days::*;
 use edges::*;
 use examples::*;
 use lines::*;
@@ -69,6 +72,10 @@ fn main() {
     }
     groups.extend([
         arrival_edges(&mut r),
+        event_days(&mut r),
+        arrival_days(&mut r),
+        days_in_rooms(&mut r),
+        known_days(&mut r),
         flags(&mut r, [&PHASES, &ARRIVALS]),
         other_blocks(&mut r, [&PHASES, &ARRIVALS], 6_000 * times),
         taking(&mut r, 40_000 * times),

@@ -4,7 +4,6 @@ mod links;
 mod rooms;
 mod rows;
 
-use crate::cube::EVENT_LINE;
 pub use cubes::*;
 pub use links::*;
 pub use rooms::*;
@@ -52,16 +51,24 @@ pub fn with(bytes: &[u8], at: usize, others: &[u8]) -> Vec<u8> {
     all
 }
 
-/// One byte of a line changed; of an E line the check character often made right again.
+/// A month of fewer than 31 days, and a day from 28 to 31, which it has or has not.
+pub fn month_end(r: &mut Rng) -> (i64, i64) {
+    (r.pick(&[2, 2, 4, 6, 9, 11]), r.between(28, 31))
+}
+
+/// One byte of a line changed; of an E line the check character often made right again, or the date moved to the end of a month.
 pub fn damaged(r: &mut Rng, line: &[u8]) -> Vec<u8> {
     let mut l = line.to_vec();
     if l.is_empty() {
         return l;
     }
+    if is_event(&l) && r.one_in(6) {
+        return late(r, &l);
+    }
     let end = if r.one_in(4) { l.len().min(20) } else { l.len() };
     let at = r.below(end);
     l[at] = if r.one_in(3) { r.next() as u8 } else { r.pick(EDGES) };
-    if l.len() == EVENT_LINE && l.starts_with(b"E ") && !r.one_in(4) {
+    if is_event(&l) && !r.one_in(4) {
         seal(&mut l);
     }
     l
@@ -87,7 +94,7 @@ pub fn filled(r: &mut Rng, line: &[u8]) -> Vec<u8> {
     for x in &mut l[from..to] {
         *x = if b == b'5' { r.pick(b"0123456789") } else { b };
     }
-    if l.len() == EVENT_LINE && l.starts_with(b"E ") {
+    if is_event(&l) {
         seal(&mut l);
     }
     l
@@ -105,10 +112,22 @@ pub fn spaced(r: &mut Rng, line: &[u8]) -> Vec<u8> {
     l
 }
 
+/// A number of a range, often one of its ends.
+fn number_in(r: &mut Rng, (low, high): (i64, i64)) -> i64 {
+    if r.one_in(4) {
+        r.pick(&[low, high])
+    } else {
+        r.between(low, high)
+    }
+}
+
 fn edge_number(r: &mut Rng, rec: &mut [u8], flags: usize, values: usize, n: usize) {
     let i = r.below(n);
     let v = match r.below(5) {
-        0 => r.pick(&[0, -1, 1, 12, 13, 31, 32, 99, 100, -9, -10, 999, 1000, -99, -100, 9999, 10000, 18000, 18001, 3600, 3601, 59999, 60000]),
+        0 => r.pick(&[
+            0, -1, 1, 2, 12, 13, 28, 29, 30, 31, 32, 99, 100, -9, -10, 999, 1000, -99, -100, 9999, 10000, 18000, 18001, 3600, 3601, 59999,
+            60000,
+        ]),
         1 => 10i64.pow(r.below(11) as u32) - r.between(0, 1),
         2 => -(10i64.pow(r.below(11) as u32)) + r.between(0, 1),
         3 => r.pick(&[900000, 900001, -900000, -900001, 1800000, 1800001, -1800001, i64::MIN, i64::MAX]),

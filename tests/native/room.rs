@@ -20,14 +20,14 @@ pub const ROOM: usize = 62_982;
 pub const FULL: u8 = 12;
 pub const DISORDER: u8 = 13;
 pub const LINKS_FULL: u8 = 16;
-const STORED: u8 = 20;
+pub const STORED: u8 = 20;
 const REPLACED: u8 = 21;
-const REPEATED: u8 = 22;
+pub const REPEATED: u8 = 22;
 const OUTDATED: u8 = 23;
-const REMOVED: u8 = 24;
+pub const REMOVED: u8 = 24;
 const NOTED: u8 = 25;
 const NOTHING_HELD: u8 = 26;
-const IS_HELD: u8 = 27;
+pub const IS_HELD: u8 = 27;
 const NOT_HELD: u8 = 28;
 
 /// Source, then identifier.
@@ -147,7 +147,7 @@ impl Catalogue {
         let held = walk.section(HELD, held_key)?;
         let deleted = walk.section(DELETION, deletion_key)?;
         let links = walk.section(LINK, link_key)?;
-        if links.len() > LINKS || walk.rest.iter().any(|&b| b != 0) {
+        if links.len() > LINKS || walk.rest.iter().fold(0, |all, b| all | b) != 0 {
             return None;
         }
         let c = Catalogue {

@@ -1,5 +1,5 @@
 //! A line of a file format and its record, over the format's table: document 01 ("Numbers in columns", "The phase line", "Order"), document
-//! 02 ("Automatic arrivals"), docs/RECORDS.md ("Rows of file formats"). The tables are in formats.rs.
+//! 02 ("Automatic arrivals", "No thirtieth of February"), docs/RECORDS.md ("Rows of file formats"). The tables are in formats.rs.
 use crate::number::*;
 
 /// What stands in a field.
@@ -16,10 +16,18 @@ pub enum Field {
     Letters(&'static [u8]),
     /// Digits after the point, and the ends of the range.
     Dec(usize, i64, i64),
-    /// Three numbers with this mark between them, there or missing together.
-    Marked(u8, &'static [Part; 3]),
+    /// A date or a time, its numbers there or missing together.
+    Marked(&'static Moment),
 }
 use Field::*;
+
+/// A date or a time: three numbers with a mark between them.
+pub struct Moment {
+    pub mark: u8,
+    pub parts: [Part; 3],
+    /// Whether three numbers, each in its range, are one.
+    pub exists: fn(&[i64]) -> bool,
+}
 
 /// One of the numbers of a date or a time, a decimal where it has digits after a point.
 pub struct Part {
@@ -78,6 +86,45 @@ impl Part {
     fn write(&self, v: i64) -> String {
         let cell = self.decimals.map_or_else(|| write_int(v, self.width), |d| write_dec(v, self.width, d));
         cell.iter().map(|&b| if b == b' ' { '0' } else { b as char }).collect()
+    }
+}
+
+impl Moment {
+    fn in_range(&self, values: &[i64]) -> bool {
+        self.parts.iter().zip(values).all(|(p, &v)| p.in_range(v)) && (self.exists)(values)
+    }
+
+    /// The numbers of a cell, none where it is blank; the form of all before the range of any.
+    fn read(&self, cell: &[u8]) -> Result<Vec<i64>, u8> {
+        if is_blank(cell) {
+            return Ok(Vec::new());
+        }
+        let mut values = Vec::new();
+        let mut from = 0;
+        for p in &self.parts {
+            if from > 0 && cell[from - 1] != self.mark {
+                return Err(FORM);
+            }
+            values.push(p.read(&cell[from..from + p.width]).ok_or(FORM)?);
+            from += p.width + 1;
+        }
+        if self.in_range(&values) {
+            Ok(values)
+        } else {
+            Err(RANGE)
+        }
+    }
+
+    fn write(&self, values: &[i64]) -> Result<Vec<u8>, u8> {
+        let each = || self.parts.iter().zip(values);
+        if !each().all(|(p, &v)| p.holds(v)) {
+            return Err(WIDE);
+        }
+        if !self.in_range(values) {
+            return Err(RANGE);
+        }
+        let cells: Vec<String> = each().map(|(p, &v)| p.write(v)).collect();
+        Ok(cells.join(&char::from(self.mark).to_string()).into_bytes())
     }
 }
 
@@ -167,8 +214,8 @@ impl Format {
                     self.put(record, f.at, v);
                 }
             }
-            Marked(mark, parts) => {
-                for (i, v) in read_marked(cell, mark, parts)?.into_iter().enumerate() {
+            Marked(moment) => {
+                for (i, v) in moment.read(cell)?.into_iter().enumerate() {
                     self.put(record, f.at + i, v);
                 }
             }
@@ -213,12 +260,12 @@ impl Format {
                 Some(v) if v < low || high < v => Err((RANGE, f.first)),
                 Some(v) => Ok(write_dec(v, w, d)),
             },
-            Marked(mark, parts) => {
+            Marked(moment) => {
                 let values: Vec<i64> = (f.at..f.at + 3).filter_map(|i| self.get(record, i)).collect();
                 if values.is_empty() {
                     return Ok(vec![b' '; w]);
                 }
-                write_marked(&values, mark, parts).map_err(|n| (n, f.first))
+                moment.write(&values).map_err(|n| (n, f.first))
             }
             field => {
                 let cell = &record[f.at..f.at + w];
@@ -246,37 +293,4 @@ fn judge_text(field: Field, cell: &[u8]) -> Result<(), u8> {
         Flush if cell[0] == b' ' && !is_blank(cell) => Err(FORM),
         _ => Ok(()),
     }
-}
-
-/// The numbers of a date or a time, none where it is blank; the form of all before the range of any.
-fn read_marked(cell: &[u8], mark: u8, parts: &[Part; 3]) -> Result<Vec<i64>, u8> {
-    if is_blank(cell) {
-        return Ok(Vec::new());
-    }
-    let mut values = Vec::new();
-    let mut from = 0;
-    for p in parts {
-        if from > 0 && cell[from - 1] != mark {
-            return Err(FORM);
-        }
-        values.push(p.read(&cell[from..from + p.width]).ok_or(FORM)?);
-        from += p.width + 1;
-    }
-    if parts.iter().zip(&values).all(|(p, &v)| p.in_range(v)) {
-        Ok(values)
-    } else {
-        Err(RANGE)
-    }
-}
-
-fn write_marked(values: &[i64], mark: u8, parts: &[Part; 3]) -> Result<Vec<u8>, u8> {
-    let each = || parts.iter().zip(values);
-    if !each().all(|(p, &v)| p.holds(v)) {
-        return Err(WIDE);
-    }
-    if !each().all(|(p, &v)| p.in_range(v)) {
-        return Err(RANGE);
-    }
-    let cells: Vec<String> = each().map(|(p, &v)| p.write(v)).collect();
-    Ok(cells.join(&char::from(mark).to_string()).into_bytes())
 }

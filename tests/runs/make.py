@@ -1,7 +1,8 @@
 #!/usr/bin/env python3
 """Writes the inputs NAME.in of the runs and, from a model of its own, what the program has to print, NAME.out.
 
-The model is written from document 01 and, for links, from document 02, "Take the links"; it shares nothing with the program."""
+The model is written from document 01 and from document 02, "Take the links" and "No thirtieth of February"; it shares nothing with the
+program."""
 import os
 import re
 
@@ -42,6 +43,12 @@ def check_character(line):
     return 36 + total % 91
 
 
+def days(year, month):
+    """How many days a month has in the Gregorian calendar, carried over all years; year 0 is a leap year."""
+    leap = year % 400 == 0 or (year % 4 == 0 and year % 100 != 0)
+    return (31, 29 if leap else 28, 31, 30, 31, 30, 31, 31, 30, 31, 30, 31)[month - 1]
+
+
 # ---- reading: (number, column), or None for an acceptable line
 
 
@@ -61,9 +68,12 @@ def refused_event(line):
         return (2, barred)
     if line[79] != check_character(line[:79]):
         return (9, 80)
-    for _, first, last, required, low, high in FIELDS:
+    numbers = {}
+    for name, first, last, required, low, high in FIELDS:
         if required is None:
             continue
+        if name == "day":
+            high = days(numbers["year"], numbers["month"])
         cell = line[first - 1 : last]
         if not cell.strip(b" "):
             if required:
@@ -72,6 +82,8 @@ def refused_event(line):
             return (6, first)
         elif not low <= int(cell) <= high:
             return (7, first)
+        else:
+            numbers[name] = int(cell)
     return None
 
 
@@ -398,6 +410,37 @@ def triples():
     return b"".join(line + b"\n" for line in lines)
 
 
+def calendar():
+    """Days that exist and days that do not; a refused one leaves what is held."""
+    def dated(year, month, day, version="1", **cells):
+        return event(f"{year:04}{month:02}{day:02}", "CI", version, year=year, month=month, day=day, **cells)
+
+    def april(day, version):
+        return event("april", "NC", version, day=day)
+
+    lines = [dated(year, 2, 30) for year in (2023, 2024, 2000, 1900, 0, -1, -4, -100, -400)]
+    lines += [dated(year, 2, 29) for year in (1900, 2000, 2024, 2023, 2100, 2400, 6068, 6070, 0, 1, 4, 100, 400)]
+    lines += [dated(year, 2, 29) for year in (-1, -3, -4, -5, -96, -100, -104, -200, -300, -400, -800, -999)]
+    lines += [dated(1999, 4, 31), dated(1999, 4, 30)]
+    for month, day in enumerate((31, 28, 31, 30, 31, 30, 31, 31, 30, 31, 30, 31), 1):
+        lines += [dated(2023, month, day), dated(2023, month, day + 1)]
+    lines += [
+        # blanks, minus and zeros: 29 February of the years 4, 0 and -4, and of 1, -1 and -100
+        event("blanks", "NC", "1", year="   4", month=" 2", day=29), event("minus", "NC", "1", year="  -0", month=" 2", day=29),
+        event("both", "NC", "1", year="  -4", month="02", day=29), event("blanks", "NC", "2", year="   1", month=" 2", day=29),
+        event("minus", "NC", "2", year=" -01", month=" 2", day=29), event("both", "NC", "2", year="-100", month=" 2", day=29),
+        event("first", "NC", "1", month=2, day=" 1"), event("first", "NC", "2", month=2, day=" 0"),
+        event("first", "NC", "2", month=2, day="-1"),
+        # refused by a column before the day's, by the day's, by the check character before all
+        dated(2023, 13, 31), dated(6071, 2, 30), dated(2023, 2, 30, hour=24), dated(2023, 2, 28, hour=24), dated(2023, 2, 30, check=False),
+        event("form", "NC", "1", month=2, day="3 "), event("blank", "NC", "1", month=2, day="  "),
+        # a refused line replaces nothing, and a delete finds what was held before it
+        april(30, "1"), april(31, "2"), april(30, "1"), april(29, "2"), april(31, "2"), april(31, "3"), delete("april", "NC", "2"),
+        april(31, "4"), april(30, "3"),
+    ]
+    return b"".join(line + b"\n" for line in lines)
+
+
 def last():
     return event("meav", "US", "3") + b"\n\n" + delete("09081845", "CI", "2", " EVENT CANCELLED:  (LKH)") + b"\n" + event("meav", "US", "4")
 
@@ -415,8 +458,9 @@ def long():
 def main():
     here = os.path.dirname(os.path.abspath(__file__))
     wanted = {"answers": {1, 2, 3, 5, 6, 7, 9, 20, 21, 22, 23, 24, 25, 26}, "pairs": {12, 26}, "links": {1, 2, 3, 6, 20, 21, 22, 23},
-              "triples": {12, 16, 20, 21, 22, 23, 26}}
-    runs = dict(empty=b"", answers=answers(), pairs=pairs(), last=last(), long=long(), links=links(), triples=triples())
+              "triples": {12, 16, 20, 21, 22, 23, 26}, "calendar": {5, 6, 7, 9, 20, 21, 22, 24}}
+    runs = dict(empty=b"", answers=answers(), pairs=pairs(), last=last(), long=long(), links=links(), triples=triples(),
+                calendar=calendar())
     for name, data in runs.items():
         out, numbers = printed(data)
         assert wanted.get(name, set()) <= set(numbers), (name, sorted(set(numbers)))

@@ -13,8 +13,6 @@ use Rattle.columns.specs.declared.number.Field.{Field}
 use Rattle.columns.specs.declared.number.Field.the-variants as F
 use Rattle.columns.specs.declared.number.Form.{Form}
 use Rattle.columns.specs.declared.number.Form.the-variants as N
-use Rattle.columns.specs.declared.column.Range.{Range}
-use Rattle.columns.specs.declared.column.Range.the-variants as R
 use Rattle.columns.specs.declared.group.Part.{Part}
 use Rattle.columns.specs.declared.group.Group.{Group}
 
@@ -39,17 +37,11 @@ joined a b = record { numbers = a .numbers ++ b .numbers; chars = a .chars ++ b 
 -- ---- ranges: the numbers that a column may hold
 
 -- whatever the column holds; whatever it holds from zero on; a day of the calendar; from one end to the other
-abbrev pub asHeld : Range
-asHeld = R.AsHeld
-
-abbrev pub notNegative : Range
-notNegative = R.NotNegative
-
-abbrev pub calendarDay : Range
-calendarDay = R.Day
-
-abbrev pub span : ℤ → ℤ → Range
-span lo hi = R.Span lo hi
+pub data Range : Type 0 where
+  asHeld : Range
+  notNegative : Range
+  calendarDay : Range
+  span : ℤ → ℤ → Range
 
 abbrev pub within : ℤ → ℤ → ℤ → Bool
 within lo hi v = pick (ltZ v lo) false (pick (ltZ hi v) false true)
@@ -68,23 +60,14 @@ lastDayAfter seen =
 
 -- the range step: whether a column may hold v, after the numbers that were read before it
 unfoldable pub allowed : Range → List Slot → ℤ → Bool
-allowed R.AsHeld seen v = true
-allowed R.NotNegative seen v = leZ (pos 0) v
-allowed R.Day seen v = within (pos 1) (pos (lastDayAfter seen)) v
-allowed (R.Span lo hi) seen v = within lo hi v
+allowed asHeld seen v = true
+allowed notNegative seen v = leZ (pos 0) v
+allowed calendarDay seen v = within (pos 1) (pos (lastDayAfter seen)) v
+allowed (span lo hi) seen v = within lo hi v
 
--- whether a range goes by the numbers before it, and whether it holds no negative number
-abbrev pub looksBack : Range → Bool
-looksBack R.AsHeld = false
-looksBack R.NotNegative = false
-looksBack R.Day = true
-looksBack (R.Span lo hi) = false
-
-abbrev pub fromZero : Range → Bool
-fromZero R.AsHeld = false
-fromZero R.NotNegative = true
-fromZero R.Day = true
-fromZero (R.Span lo hi) = not (ltZ lo (pos 0))
+-- the range of a number of a group
+abbrev pub partRange : Part → Range
+partRange p = span (p .low) (p .high)
 
 -- ---- columns
 
@@ -124,22 +107,24 @@ abbrev pub clockTime : Group
 clockTime =
     record {
       mark = 58;
-      first = record { form = N.Integer 2; range = span (pos 0) (pos 23) };
-      second = record { form = N.Integer 2; range = span (pos 0) (pos 59) };
-      third = record { form = N.Decimal 6 3; range = span (pos 0) (pos 59999) };
+      dated = false;
+      first = record { form = N.Integer 2; low = pos 0; high = pos 23 };
+      second = record { form = N.Integer 2; low = pos 0; high = pos 59 };
+      third = record { form = N.Decimal 6 3; low = pos 0; high = pos 59999 };
     }
 
 abbrev pub clock : Col
 clock = group clockTime
 
--- the date i4/i2/i2: year 0 to 9999, month and day as for E. Document 02, Wish 2 and Wish 3
+-- the date i4/i2/i2: year 0 to 9999, month and day as for E, a day of the calendar. Document 02, Wish 2 and Wish 3
 abbrev pub calendarDate : Group
 calendarDate =
     record {
       mark = 47;
-      first = record { form = N.Integer 4; range = span (pos 0) (pos 9999) };
-      second = record { form = N.Integer 2; range = span (pos 1) (pos 12) };
-      third = record { form = N.Integer 2; range = calendarDay };
+      dated = true;
+      first = record { form = N.Integer 4; low = pos 0; high = pos 9999 };
+      second = record { form = N.Integer 2; low = pos 1; high = pos 12 };
+      third = record { form = N.Integer 2; low = pos 1; high = pos 31 };
     }
 
 abbrev pub date : Col
@@ -184,16 +169,12 @@ texts (letter s) = 1
 texts (group g) = 0
 texts (blank w) = 0
 
--- well-formed: the forms of numbers are; text has a byte; a group's mark is a mark byte, its numbers are not negative, and only the
--- third may go by those before it
+-- well-formed: the forms of numbers are; text has a byte; a group's mark is a mark byte and its numbers are not negative
 abbrev pub goodPart : Part → Bool
-goodPart p = goodForm (p .form) && fromZero (p .range)
-
-abbrev pub goodAlone : Part → Bool
-goodAlone p = goodPart p && not (looksBack (p .range))
+goodPart p = goodForm (p .form) && not (ltZ (p .low) (pos 0))
 
 abbrev pub goodGroup : Group → Bool
-goodGroup g = (leb 45 (g .mark) && leb (g .mark) 58) && (goodAlone (g .first) && (goodAlone (g .second) && goodPart (g .third)))
+goodGroup g = (leb 45 (g .mark) && leb (g .mark) 58) && (goodPart (g .first) && (goodPart (g .second) && goodPart (g .third)))
 
 abbrev pub goodCol : Col → Bool
 goodCol (numeric f q g) = goodForm f

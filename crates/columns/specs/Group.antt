@@ -2,26 +2,30 @@
 -- 12 blanks, or i2 `:` i2 `:` f6.3, none of the three missing; its form is judged as a whole before its ranges.
 use Prim.Native.Nat.{ℕ, _+_}
 use mathlib.Core.List.{List, [], _∷_, _++_}
-use mathlib.Core.Bool.{Bool, _&&_}
+use mathlib.Core.Bool.{Bool, true, _&&_}
 use lib.IntN.{ℤ, natAbs}
 use lib.ListN.{take, drop, getD, replicate}
 use lib.Dec.{eqb}
 use Rattle.columns.specs.Answer.{pick, Answer, ok, refusal, requiredBlank, badForm, outOfRange, tooWide}
 use Rattle.columns.specs.Bytes.{allBlank}
 use Rattle.columns.specs.Number.{formWidth, fieldOf, holds, zeroFilled}
-use Rattle.columns.specs.Column.{Slot, missing, given, Rec, allowed, firstWidth, secondStart, secondEnd, thirdStart, groupWidth}
+use Rattle.columns.specs.Column.{Slot, missing, given, Rec, calendarDay, allowed, partRange, firstWidth, secondStart, secondEnd, thirdStart, groupWidth}
 use Rattle.columns.specs.declared.number.Field.{Field}
 use Rattle.columns.specs.declared.number.Field.the-variants as F
 use Rattle.columns.specs.declared.group.Group.{Group}
 use Rattle.columns.specs.declared.group.Three.{Three}
 use Rattle.columns.specs.declared.group.Three.the-variants as T
 
--- each in its range, the later ones after the earlier ones
+-- each in its range, the later ones after the earlier ones; of a date, a day that exists besides
+abbrev pub partsRange : Group → List Slot → ℤ → ℤ → ℤ → Bool
+partsRange g seen x y z =
+    allowed (partRange (g .first)) seen x
+    && (allowed (partRange (g .second)) (seen ++ given x ∷ []) y
+    && allowed (partRange (g .third)) (seen ++ given x ∷ given y ∷ []) z)
+
 abbrev pub groupRange : Group → List Slot → ℤ → ℤ → ℤ → Bool
 groupRange g seen x y z =
-    allowed (g .first .range) seen x
-    && (allowed (g .second .range) (seen ++ given x ∷ []) y
-    && allowed (g .third .range) (seen ++ given x ∷ given y ∷ []) z)
+    partsRange g seen x y z && pick (g .dated) (allowed calendarDay (seen ++ given x ∷ given y ∷ []) z) true
 
 abbrev pub groupRec : Slot → Slot → Slot → Rec
 groupRec x y z = record { numbers = x ∷ y ∷ z ∷ []; chars = [] }

@@ -8,7 +8,7 @@ use lib.Dec.{T, eqb}
 use lib.Seq.{slice}
 use Rattle.columns.specs.Answer.{pick, isOk}
 use Rattle.columns.specs.Number.{intField}
-use Rattle.columns.specs.Column.{Slot, slotIn, looksBack, lastDay, lastDayAfter, Col, numeric, text, letter, group, blank, good, widths}
+use Rattle.columns.specs.Column.{Slot, slotIn, Range, asHeld, notNegative, calendarDay, span, lastDay, lastDayAfter, Col, numeric, text, letter, group, blank, good, widths}
 use Rattle.columns.specs.Reading.{readCell}
 use Rattle.columns.specs.declared.number.Form.the-variants as N
 
@@ -22,6 +22,12 @@ simpleCol (group g) = false
 simpleCol (blank w) = false
 
 -- a day
+abbrev pub looksBack : Range → Bool
+looksBack asHeld = false
+looksBack notNegative = false
+looksBack calendarDay = true
+looksBack (span lo hi) = false
+
 abbrev pub isDay : Col → Bool
 isDay (numeric m q g) = looksBack g
 isDay (text w r) = false

@@ -9,12 +9,11 @@ use lib.ListN.{length, take, drop, getD}
 use lib.Seq.{slice}
 use lib.Dec.{T, eqb, leb, ltb}
 use Rattle.columns.specs.Answer.{pick, Answer, ok, refusal}
-use Rattle.columns.specs.Column.{Slot, missing, given, Rec, asHeld, notNegative, calendarDay, span, Rule, anyText, noBrackets, notBlankFirst, notAllBlank, blankOrFilled, clockTime, calendarDate, groupWidth, Col, numeric, text, letter, group, blank, width, slots, texts, goodCol, good, widths, allSlots, allTexts, inStretch, bracketsIn}
+use Rattle.columns.specs.Column.{Slot, missing, given, Rec, Range, asHeld, notNegative, calendarDay, span, Rule, anyText, noBrackets, notBlankFirst, notAllBlank, blankOrFilled, clockTime, calendarDate, groupWidth, Col, numeric, text, letter, group, blank, width, slots, texts, goodCol, good, widths, allSlots, allTexts, inStretch, bracketsIn}
 use Rattle.columns.specs.declared.number.Form.{Form}
 use Rattle.columns.specs.declared.number.Form.the-variants as N
 use Rattle.columns.specs.declared.group.Group.{Group}
 use Rattle.columns.specs.declared.column.Column.{Column}
-use Rattle.columns.specs.declared.column.Range.{Range}
 use Rattle.columns.specs.declared.Outcome.{Outcome}
 use Rattle.columns.specs.declared.Outcome.the-variants as O
 

@@ -23,10 +23,7 @@ fn days_in(year: i64, month: i64) -> i64
 {
     match month {
         2 => { if is_leap(year) { 29 } else { 28 } }
-        4 => 30,
-        6 => 30,
-        9 => 30,
-        11 => 30,
+        4 | 6 | 9 | 11 => 30,
         _ => 31,
     }
 }

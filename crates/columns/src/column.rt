@@ -6,12 +6,12 @@ use super::group::group_width;
 use super::number::Field;
 use super::number::Form;
 ghost use mathlib.Core.Path.{_≡_};
-ghost use mathlib.Core.List.{List, [], _∷_, _++_};
+ghost use mathlib.Core.List.{List};
 ghost use Prim.Native.Nat.{_+_, _≤_, _<_};
 ghost use lib.ListN.{length, take, getD};
 ghost use lib.IntN.{pos};
 ghost use lib.Seq.{slice};
-ghost use Rattle.columns.specs.Column.{Slot, given, slotIn, within, lastDayAfter, allowed};
+ghost use Rattle.columns.specs.Column.{Slot, slotIn, within, lastDayAfter, allowed};
 ghost use Rattle.columns.specs.Reading.{ruleRefuses, ruleNumber};
 ghost use Rattle.columns.specs.Table.{columnIn, rangeAt, ruleAt, formIn, widthBy, slotsBy, textsBy, slotOf, slotsOf};
 
@@ -42,15 +42,6 @@ pub const AS_HELD: u32 = 0;
 pub const NOT_NEGATIVE: u32 = 1;
 
 pub const DAY: u32 = 2;
-
-// The numbers that a column may hold: any; from zero on; the days of the month that the two numbers before it name; from one end to
-// the other.
-pub enum Range {
-    AsHeld,
-    NotNegative,
-    Day,
-    Span(i64, i64),
-}
 
 // The rules of text.
 pub const ANY_TEXT: u32 = 0;
@@ -210,18 +201,6 @@ pub fn in_range_at(ranges: &[i64], k: usize, v: i64) -> bool
     in_range(end_at(ranges, k), end_at(ranges, k + 1), v)
 }
 
-// Whether a range may hold v after a year and a month.
-pub fn in_range_after(range: Range, year: i64, month: i64, v: i64) -> bool
-    ensures { λ r. ⌜ ((seen : List Slot) → r ≡ allowed range (seen ++ given year ∷ given month ∷ []) v) ⌝ }
-{
-    match range {
-        Range::AsHeld => true,
-        Range::NotNegative => 0 <= v,
-        Range::Day => is_day(Field::Value(year), Field::Value(month), v),
-        Range::Span(low, high) => in_range(low, high, v),
-    }
-}
-
 // A number of the record.
 fn number_at(flags: &[u8], values: &[i64], i: usize) -> Field
     requires { ⌜ (i < length (now flags)) × (i < length (now values)) ⌝ }
@@ -234,7 +213,7 @@ fn number_at(flags: &[u8], values: &[i64], i: usize) -> Field
 }
 
 // Whether v is a day after the first n numbers of the record.
-fn day_after(flags: &[u8], values: &[i64], n: usize, v: i64) -> bool
+pub fn day_after(flags: &[u8], values: &[i64], n: usize, v: i64) -> bool
     requires { ⌜ (length (now flags) ≡ length (now values)) × (n ≤ length (now flags)) ⌝ }
     ensures { λ r. ⌜ r ≡ within (pos 1) (pos (lastDayAfter (take n (slotsOf (now (flags .entry)) (now (values .entry)))))) v ⌝ }
 {

@@ -3,7 +3,8 @@ use super::bytes::copy_at;
 use super::bytes::has;
 use super::bytes::skip_blanks;
 use super::column::Column;
-use super::column::allows;
+use super::column::day_after;
+use super::column::in_range_at;
 use super::column::refuses_text;
 use super::column::rule_number;
 use super::group::Group;
@@ -22,7 +23,7 @@ ghost use lib.ListN.{length, take};
 ghost use lib.Seq.{slice};
 ghost use lib.Dec.{T};
 ghost use Rattle.columns.specs.Number.{intField, decField};
-ghost use Rattle.columns.specs.Column.{Slot, allowed, text, letter, blank, width, groupWidth, goodGroup};
+ghost use Rattle.columns.specs.Column.{Slot, calendarDay, allowed, text, letter, blank, width, groupWidth, goodGroup};
 ghost use Rattle.columns.specs.Group.{groupField, judgeGroup};
 ghost use Rattle.columns.specs.Reading.{judge, readCell};
 ghost use Rattle.columns.specs.Table.{rangeAt, ruleAt, colOf, slotsOf, placed};
@@ -60,18 +61,10 @@ pub struct CellRead {
     pub next: Cursor,
 }
 
-// A number's column: required and blank 5, form 6, range 7.
-fn judged(
-    field: Field,
-    at: usize,
-    c: Column,
-    ranges: &[i64],
-    flags: &[u8],
-    values: &[i64],
-    k: usize,
-) -> Cell
-    requires { ⌜ (at ≤ 4096) × ((c .last < 128) × ((length (now flags) ≡ length (now values)) × (k ≤ length (now flags)))) ⌝ }
-    ensures { λ r. ⌜ ((f : List ℕ) → cellAnswer r f ≡ judge (c .required) (allowed (rangeAt (now (ranges .entry)) (c .last)) (take k (slotsOf (now (flags .entry)) (now (values .entry))))) at field) ⌝ }
+// A number's column by a range that is no day: required and blank 5, form 6, range 7.
+fn judged(field: Field, at: usize, c: Column, ranges: &[i64]) -> Cell
+    requires { ⌜ (at ≤ 4096) × ((c .last < 128) × (c .last ≡ 2 → ⊥)) ⌝ }
+    ensures { λ r. ⌜ ((seen : List Slot) (f : List ℕ) → cellAnswer r f ≡ judge (c .required) (allowed (rangeAt (now (ranges .entry)) (c .last)) seen) at field) ⌝ }
 {
     match field {
         Field::Missing => {
@@ -83,7 +76,31 @@ fn judged(
         }
         Field::Bad => Cell::Refused(super::FORM, at + 1),
         Field::Value(v) => {
-            if allows(ranges, c.last, flags, values, k, v) {
+            if in_range_at(ranges, c.last, v) {
+                Cell::Number(v)
+            } else {
+                Cell::Refused(super::RANGE, at + 1)
+            }
+        }
+    }
+}
+
+// A day's column after the first k numbers of the record: the same order.
+fn judged_day(field: Field, at: usize, c: Column, flags: &[u8], values: &[i64], k: usize) -> Cell
+    requires { ⌜ (at ≤ 4096) × ((length (now flags) ≡ length (now values)) × (k ≤ length (now flags))) ⌝ }
+    ensures { λ r. ⌜ ((f : List ℕ) → cellAnswer r f ≡ judge (c .required) (allowed calendarDay (take k (slotsOf (now (flags .entry)) (now (values .entry))))) at field) ⌝ }
+{
+    match field {
+        Field::Missing => {
+            if c.required {
+                Cell::Refused(super::REQUIRED, at + 1)
+            } else {
+                Cell::Absent
+            }
+        }
+        Field::Bad => Cell::Refused(super::FORM, at + 1),
+        Field::Value(v) => {
+            if day_after(flags, values, k, v) {
                 Cell::Number(v)
             } else {
                 Cell::Refused(super::RANGE, at + 1)
@@ -94,7 +111,7 @@ fn judged(
 
 // A group's column: form 6, ranges 7.
 fn grouped(three: Three, at: usize, g: Group) -> Cell
-    requires { ⌜ (at ≤ 4096) × T (goodGroup g) ⌝ }
+    requires { ⌜ at ≤ 4096 ⌝ }
     ensures { λ r. ⌜ ((seen : List Slot) (f : List ℕ) → cellAnswer r f ≡ judgeGroup g seen at three) ⌝ }
 {
     match three {
@@ -244,8 +261,14 @@ impl Cursor {
             let got = self.integer(line, c.width);
             let field = got.field;
             let next = got.next;
+            if last == 2 {
+                return CellRead {
+                    cell: judged_day(field, at, c, flags, values, k),
+                    next,
+                };
+            }
             return CellRead {
-                cell: judged(field, at, c, ranges, flags, values, k),
+                cell: judged(field, at, c, ranges),
                 next,
             };
         }
@@ -253,8 +276,14 @@ impl Cursor {
             let got = self.decimal(line, c.width, place);
             let field = got.field;
             let next = got.next;
+            if last == 2 {
+                return CellRead {
+                    cell: judged_day(field, at, c, flags, values, k),
+                    next,
+                };
+            }
             return CellRead {
-                cell: judged(field, at, c, ranges, flags, values, k),
+                cell: judged(field, at, c, ranges),
                 next,
             };
         }

@@ -2,8 +2,8 @@
 use super::Outcome;
 use super::bytes::blanks;
 use super::bytes::skip_blanks;
-use super::column::Range;
-use super::column::in_range_after;
+use super::calendar::is_day;
+use super::column::in_range;
 use super::number::Field;
 use super::number::Form;
 use super::number::read_number;
@@ -20,7 +20,7 @@ ghost use lib.Seq.{slice};
 ghost use lib.Dec.{T};
 ghost use lib.IntN.{pos};
 ghost use Rattle.columns.specs.Column.{Slot, missing, given, clockTime, calendarDate, groupWidth, goodGroup};
-ghost use Rattle.columns.specs.Group.{groupRange, threeOf, groupField, groupBytes, groupHolds, putGroup};
+ghost use Rattle.columns.specs.Group.{partsRange, groupRange, threeOf, groupField, groupBytes, groupHolds, putGroup};
 ghost use Rattle.columns.specs.Number.{formWidth, goodForm, zeroFilled};
 ghost use Rattle.columns.specs.Table.{groupAt, slotOf, Wrote, placed};
 
@@ -31,15 +31,17 @@ pub enum Three {
     Bad,
 }
 
-// A number of a group.
+// A number of a group: its form and the ends of its range.
 pub struct Part {
     pub form: Form,
-    pub range: Range,
+    pub low: i64,
+    pub high: i64,
 }
 
-// Three numbers and the mark between them.
+// Three numbers, the mark between them, and whether the third is a day of the month and year before it.
 pub struct Group {
     pub mark: u8,
+    pub dated: bool,
     pub first: Part,
     pub second: Part,
     pub third: Part,
@@ -50,17 +52,21 @@ fn clock_time() -> Group
 {
     Group {
         mark: 58,
+        dated: false,
         first: Part {
             form: Form::Integer(2),
-            range: Range::Span(0, 23),
+            low: 0,
+            high: 23,
         },
         second: Part {
             form: Form::Integer(2),
-            range: Range::Span(0, 59),
+            low: 0,
+            high: 59,
         },
         third: Part {
             form: Form::Decimal(6, 3),
-            range: Range::Span(0, 59999),
+            low: 0,
+            high: 59999,
         },
     }
 }
@@ -70,17 +76,21 @@ fn calendar_date() -> Group
 {
     Group {
         mark: 47,
+        dated: true,
         first: Part {
             form: Form::Integer(4),
-            range: Range::Span(0, 9999),
+            low: 0,
+            high: 9999,
         },
         second: Part {
             form: Form::Integer(2),
-            range: Range::Span(1, 12),
+            low: 1,
+            high: 12,
         },
         third: Part {
             form: Form::Integer(2),
-            range: Range::Day,
+            low: 1,
+            high: 31,
         },
     }
 }
@@ -173,21 +183,31 @@ fn all_three(a: bool, b: bool, c: bool) -> bool
 }
 
 // Three numbers in their ranges.
+fn in_parts(g: Group, x: i64, y: i64, z: i64) -> bool
+    ensures { λ r. ⌜ ((seen : List Slot) → r ≡ partsRange g seen x y z) ⌝ }
+{
+    let a = g.first;
+    let b = g.second;
+    let c = g.third;
+    all_three(
+        in_range(a.low, a.high, x),
+        in_range(b.low, b.high, y),
+        in_range(c.low, c.high, z),
+    )
+}
+
+// The same, and of a date a day that exists.
 pub fn in_group(g: Group, x: i64, y: i64, z: i64) -> bool
-    requires { ⌜ T (goodGroup g) ⌝ }
     ensures { λ r. ⌜ ((seen : List Slot) → r ≡ groupRange g seen x y z) ⌝ }
 {
-    let first = g.first;
-    let second = g.second;
-    let third = g.third;
-    let a = first.range;
-    let b = second.range;
-    let c = third.range;
-    all_three(
-        in_range_after(a, x, y, x),
-        in_range_after(b, x, y, y),
-        in_range_after(c, x, y, z),
-    )
+    let ok = in_parts(g, x, y, z);
+    if !g.dated {
+        return ok;
+    }
+    if !ok {
+        return false;
+    }
+    is_day(Field::Value(x), Field::Value(y), z)
 }
 
 fn holds_group(g: Group, x: i64, y: i64, z: i64) -> bool

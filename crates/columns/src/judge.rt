@@ -65,7 +65,11 @@ fn day_before(line: &[u8], at: usize, v: i64) -> bool
     if v < 29 {
         return 0 < v;
     }
-    is_day(int_field(line, at - 6, 4), int_field(line, at - 2, 2), v)
+    is_day(
+        read_any_int(line, at - 6, 4),
+        read_any_int(line, at - 2, 2),
+        v,
+    )
 }
 
 // A number's column from place `at` on: not where it is required and blank, of bad form or out of its range.

@@ -1,7 +1,6 @@
 -- The ranges that columns name. Document 01, "The E line" and "The phase line"; degrees are scaled by 10,000.
 use lib.IntN.{pos, negsuc}
-use Rattle.columns.specs.Column.{span}
-use Rattle.columns.specs.declared.column.Range.{Range}
+use Rattle.columns.specs.Column.{Range, span}
 
 abbrev pub yearRange : Range
 yearRange = span (negsuc 998) (pos 6070)

@@ -162,36 +162,57 @@ fn filled_field(so_far: Reading, slot: usize, first: usize, low: i64, high: i64,
     r
 }
 
-// Each fourth year has a 29 February, but of the full hundreds only each fourth.
-fn is_long(year: i64) -> bool {
-    if year % 4 != 0 {
-        return false;
+// A digit's value; a blank and a minus count nothing.
+fn digit(b: u8) -> u8
+    ensures { λ r. ⌜ r < 10 ⌝ }
+{
+    if b < 48 {
+        return 0;
     }
-    if year % 100 != 0 {
-        return true;
+    if 57 < b {
+        return 0;
     }
-    year % 400 == 0
+    b - 48
 }
 
-// How many days a month of a year has.
-fn month_end(year: i64, month: i64) -> i64 {
+// Two digits from place `at` on.
+fn two_digits(line: &[u8], at: usize) -> u8
+    requires { ⌜ at + 2 ≤ length (now line) ⌝ }
+{
+    digit(line[at]) * 10 + digit(line[at + 1])
+}
+
+// Whether the year in columns 14 to 17 has a 29 February, by its digits: the last two, or the first two where those are 00.
+fn is_long(line: &[u8]) -> bool
+    requires { ⌜ length (now line) ≡ 80 ⌝ }
+{
+    let years = two_digits(line, 15);
+    if years == 0 {
+        return two_digits(line, 13) % 4 == 0;
+    }
+    years % 4 == 0
+}
+
+fn choose(test: bool, yes: i64, no: i64) -> i64 {
+    if test {
+        return yes;
+    }
+    no
+}
+
+// How many days the month in columns 18 and 19 has.
+fn month_end(line: &[u8]) -> i64
+    requires { ⌜ length (now line) ≡ 80 ⌝ }
+{
+    let month = two_digits(line, 17);
     if month == 2 {
-        if is_long(year) {
-            return 29;
-        }
-        return 28;
+        return choose(is_long(line), 29, 28);
     }
     // up to July the odd months are the longer ones, from August on the even ones
     if month < 8 {
-        if month % 2 == 0 {
-            return 30;
-        }
-        return 31;
+        return choose(month % 2 == 0, 30, 31);
     }
-    if month % 2 == 0 {
-        return 31;
-    }
-    30
+    choose(month % 2 == 0, 31, 30)
 }
 
 // Year, month, day, hour, minute, second.
@@ -200,8 +221,7 @@ fn time(r: Reading, line: &[u8]) -> Reading
 {
     let r = field(r, line, true, 0, 14, 17, -999, 6070);
     let r = field(r, line, true, 1, 18, 19, 1, 12);
-    let end = month_end(r.values[0], r.values[1]);
-    let r = field(r, line, true, 2, 20, 21, 1, end);
+    let r = field(r, line, true, 2, 20, 21, 1, month_end(line));
     let r = field(r, line, true, 3, 22, 23, 0, 23);
     let r = field(r, line, true, 4, 24, 25, 0, 59);
     field(r, line, true, 5, 26, 28, 0, 599)

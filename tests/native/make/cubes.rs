@@ -1,10 +1,15 @@
 //! E and DE lines, and records of all three kinds.
 use super::*;
+use crate::calendar::days;
 use crate::cube::{self, EVENT_LINE, LONGEST_DELETE, RECORD, SHORTEST_DELETE};
 use crate::link;
 
 pub fn seal(line: &mut [u8]) {
     line[79] = cube::check_character(&line[..79]);
+}
+
+pub fn is_event(line: &[u8]) -> bool {
+    line.len() == EVENT_LINE && line.starts_with(b"E ")
 }
 
 /// An acceptable E line: identifier and source from small sets, so that pairs meet.
@@ -18,9 +23,10 @@ pub fn event(r: &mut Rng, pairs: usize) -> Vec<u8> {
             l[first - 1..first - 1 + w].copy_from_slice(&crate::number::write_int(v, w));
         }
     };
-    put(14, 4, Some(r.between(-999, 6070)));
-    put(18, 2, Some(r.between(1, 12)));
-    put(20, 2, Some(r.between(1, 31)));
+    let (year, month) = (r.between(-999, 6070), r.between(1, 12));
+    put(14, 4, Some(year));
+    put(18, 2, Some(month));
+    put(20, 2, Some(number_in(r, (1, days(year, month)))));
     put(22, 2, Some(r.between(0, 23)));
     put(24, 2, Some(r.between(0, 59)));
     put(26, 3, Some(r.between(0, 599)));
@@ -46,6 +52,19 @@ pub fn event(r: &mut Rng, pairs: usize) -> Vec<u8> {
     l[78] = r.letter();
     seal(&mut l);
     l
+}
+
+/// An E line with these bytes up to the day's last column, and with the check character that they want.
+pub fn dated(line: &[u8], date: &str) -> Vec<u8> {
+    let mut l = with(line, 21 - date.len(), date.as_bytes());
+    seal(&mut l);
+    l
+}
+
+/// An E line with another month and day, near the end of the month or past it.
+pub fn late(r: &mut Rng, line: &[u8]) -> Vec<u8> {
+    let (month, day) = month_end(r);
+    dated(line, &format!("{month:02}{day}"))
 }
 
 pub fn name(r: &mut Rng, l: &mut [u8], pairs: usize) {
@@ -80,15 +99,16 @@ pub fn notice(r: &mut Rng, pairs: usize) -> Vec<u8> {
     }
 }
 
-/// Any CUBE line: good, damaged, cut, stretched or random.
+/// Any CUBE line: good, damaged, cut, stretched, late in a month or random.
 pub fn cube_line(r: &mut Rng, pairs: usize) -> Vec<u8> {
     let good = notice(r, pairs);
-    match r.below(12) {
+    match r.below(13) {
         0..=4 => good,
         5..=7 => damaged(r, &good),
         8 => resized(r, &good),
         9 => filled(r, &good),
         10 => spaced(r, &good),
+        11 if is_event(&good) => late(r, &good),
         _ if r.one_in(2) => random_link(r),
         _ => {
             let n = r.below(100);
@@ -97,11 +117,11 @@ pub fn cube_line(r: &mut Rng, pairs: usize) -> Vec<u8> {
     }
 }
 
-/// Bytes of a record: of a line that was read, with numbers or parts at the edges, with a byte changed, short, or random.
+/// Bytes of a record: of a line that was read, with numbers or parts at the edges, late in a month, with a byte changed, short, or random.
 pub fn cube_record(r: &mut Rng) -> Vec<u8> {
     let line = notice(r, 9);
     let mut rec = cube::read_line(&line).unwrap();
-    match r.below(8) {
+    match r.below(9) {
         0 | 1 => {}
         2 if rec[0] == 1 => edge_number(r, &mut rec, 1, 20, 19),
         3 if rec[0] == 1 => no_number(r, &mut rec, 1, 20, 19),
@@ -112,6 +132,11 @@ pub fn cube_record(r: &mut Rng) -> Vec<u8> {
             let n = RECORD - 8 + r.below(20);
             rec = r.bytes(n);
             rec[0] = r.pick(&[0, 1, 2, 3, link::KIND, link::KIND + 1]);
+        }
+        7 if rec[0] == 1 => {
+            let (month, day) = month_end(r);
+            cube::put(&mut rec, cube::MONTH, month);
+            cube::put(&mut rec, cube::DAY, day);
         }
         _ => {
             let at = r.below(rec.len());

@@ -1,7 +1,7 @@
 //! Lines of the file formats, their records, and blocks.
 use super::*;
 use crate::block;
-use crate::row::{Field, Format, Placed};
+use crate::row::{Field, Format, Moment, Placed};
 
 /// Bytes of the letter columns, and some of none.
 const LETTERS: &[u8] = b"TASamcdieq<>_ xZ";
@@ -36,10 +36,10 @@ pub fn good_record(r: &mut Rng, format: &Format) -> Vec<u8> {
                     format.put(&mut rec, f.at, number_in(r, f.ends(low, high)));
                 }
             }
-            Field::Marked(_, parts) => {
+            Field::Marked(moment) => {
                 if !r.one_in(4) {
-                    for (i, p) in parts.iter().enumerate() {
-                        format.put(&mut rec, f.at + i, number_in(r, (p.low, p.high)));
+                    for (i, v) in numbers_of(r, moment).into_iter().enumerate() {
+                        format.put(&mut rec, f.at + i, v);
                     }
                 }
             }
@@ -49,12 +49,13 @@ pub fn good_record(r: &mut Rng, format: &Format) -> Vec<u8> {
     rec
 }
 
-fn number_in(r: &mut Rng, (low, high): (i64, i64)) -> i64 {
-    if r.one_in(4) {
-        r.pick(&[low, high])
-    } else {
-        r.between(low, high)
+/// The numbers of a date or a time; of days that the month does not have, its last.
+fn numbers_of(r: &mut Rng, moment: &Moment) -> [i64; 3] {
+    let mut values = moment.parts.each_ref().map(|p| number_in(r, (p.low, p.high)));
+    while !(moment.exists)(&values) {
+        values[2] -= 1;
     }
+    values
 }
 
 fn text(r: &mut Rng, field: Field, width: usize) -> Vec<u8> {
@@ -74,11 +75,11 @@ fn text(r: &mut Rng, field: Field, width: usize) -> Vec<u8> {
     cell
 }
 
-/// A record, perhaps with bytes behind it, or bytes that are none: numbers at the edges, text columns that have a rule changed, a byte
-/// changed, short, or random.
+/// A record, perhaps with bytes behind it, or bytes that are none: numbers at the edges, a date late in a month, text columns that have a
+/// rule changed, a byte changed, short, or random.
 pub fn row_record(r: &mut Rng, format: &Format) -> Vec<u8> {
     let mut rec = good_record(r, format);
-    match r.below(8) {
+    match r.below(9) {
         0 if r.one_in(4) => rec.resize(format.record() + r.below(20), r.next() as u8),
         0..=2 => {}
         3 | 4 => edge_number(r, &mut rec, 1, format.first_number(), format.numbers),
@@ -90,12 +91,35 @@ pub fn row_record(r: &mut Rng, format: &Format) -> Vec<u8> {
             rec = r.bytes(n);
             rec[0] = format.kind;
         }
+        7 => late_record(r, format, &mut rec),
         _ => {
             let at = r.below(rec.len());
             rec[at] = if r.one_in(2) { r.pick(EDGES) } else { r.next() as u8 };
         }
     }
     rec
+}
+
+fn date_of(format: &Format) -> Option<Placed> {
+    format.placed().find(|f| matches!(f.field, Field::Marked(moment) if moment.mark == b'/'))
+}
+
+/// A record with another month and day, near the end of the month or past it, where it has a date.
+fn late_record(r: &mut Rng, format: &Format, rec: &mut [u8]) {
+    let (month, day) = month_end(r);
+    if let Some(f) = date_of(format).filter(|f| rec[1 + f.at] == 1) {
+        format.put(rec, f.at + 1, month);
+        format.put(rec, f.at + 2, day);
+    }
+}
+
+/// The same of a line.
+fn late_line(r: &mut Rng, format: &Format, line: &[u8]) -> Vec<u8> {
+    let (month, day) = month_end(r);
+    match date_of(format) {
+        Some(f) if line.get(f.last - 6) == Some(&b'/') => with(line, f.last - 5, format!("{month:02}/{day}").as_bytes()),
+        _ => line.to_vec(),
+    }
 }
 
 /// Of a text column that has a rule the first byte changed, or every byte made blank.
@@ -112,11 +136,12 @@ fn spoil_text(r: &mut Rng, format: &Format, rec: &mut [u8]) {
 
 pub fn any_row_line(r: &mut Rng, format: &Format) -> Vec<u8> {
     let good = row_line(r, format);
-    match r.below(10) {
+    match r.below(11) {
         0..=3 => good,
         4..=6 => damaged(r, &good),
         7 => resized(r, &good),
         8 => filled(r, &good),
+        9 => late_line(r, format, &good),
         _ => {
             let n = r.below(format.width + 31);
             (0..n).map(|_| r.pick(EDGES)).collect()

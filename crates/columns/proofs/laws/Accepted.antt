@@ -11,11 +11,10 @@ use lib.Seq.{take-at, drop-at, length-take-le}
 use Rattle.columns.specs.declared.number.Field.{Field}
 use Rattle.columns.specs.declared.number.Form.{Form}
 use Rattle.columns.specs.declared.group.Group.{Group}
-use Rattle.columns.specs.declared.column.Range.{Range}
 use Rattle.columns.specs.Answer.{Answer, ok, notBlank, requiredBlank, outOfRange, wrongLetter}
 use Rattle.columns.specs.Bytes.{isNone, trim, member}
 use Rattle.columns.specs.Number.{formWidth, goodForm, fieldOf, holds, fieldBytes}
-use Rattle.columns.specs.Column.{Slot, missing, given, Rec, joined, allowed, Rule, ruleBars, Col, numeric, text, letter, group, blank, width, slots, texts, groupWidth, goodGroup, goodCol, good, widths, allSlots, allTexts, barsOf}
+use Rattle.columns.specs.Column.{Slot, missing, given, Rec, joined, Range, allowed, Rule, ruleBars, Col, numeric, text, letter, group, blank, width, slots, texts, groupWidth, goodGroup, goodCol, good, widths, allSlots, allTexts, barsOf}
 use Rattle.columns.specs.Reading.{nothing, oneNumber, someText, judge, readCell, readColumns}
 use Rattle.columns.specs.Writing.{putNumber, putText, writeCell, writeColumns}
 use Rattle.columns.proofs.laws.Clear.{Clear, clear-barred}

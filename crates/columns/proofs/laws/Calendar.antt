@@ -9,6 +9,8 @@ use lib.ListN.{length, take, getD, length-append}
 use lib.Seq.{getD-take, length-take-le, getD-append-add}
 use lib.IntN.{ℤ, pos, negsuc, natAbs}
 use lib.Signed.{ltZ, leZ}
+use mathlib.Core.Logic.{inl, inr}
+use types.Run.{OneOf}
 use mir.Syntax.{w64}
 use mir.Val.{SFits, toZ, ofZ}
 use mir.ValLaws.{toZ-ofZ}
@@ -40,9 +42,12 @@ pub february : (y : ℤ) (b : Bool) → leap y ≡ b → pick b 29 28 ≡ daysIn
 unfolding daysIn
 february y b e = rw e
 
-pub thirty : (y : ℤ) → (30 ≡ daysIn y (pos 4)) × ((30 ≡ daysIn y (pos 6)) × ((30 ≡ daysIn y (pos 9)) × (30 ≡ daysIn y (pos 11))))
+pub thirty : (y m : ℤ) → SFits w64 m → OneOf (4 ∷ 6 ∷ 9 ∷ 11 ∷ []) (ofZ w64 m) → 30 ≡ daysIn y m
 unfolding daysIn
-thirty y = (refl, (refl, (refl, refl)))
+thirty y m f (inl e) = rw (month-is m 4 f e)
+thirty y m f (inr (inl e)) = rw (month-is m 6 f e)
+thirty y m f (inr (inr (inl e))) = rw (month-is m 9 f e)
+thirty y m f (inr (inr (inr e))) = rw (month-is m 11 f e)
 
 -- any other has 31
 long : (b : Bool) (i : ℕ) → (i ≡ 1 → ⊥) → (i ≡ 3 → ⊥) → (i ≡ 5 → ⊥) → (i ≡ 8 → ⊥) → (i ≡ 10 → ⊥) → 31 ≡ getD (monthLengths b) i 31
@@ -60,11 +65,14 @@ long b (suc (suc (suc (suc (suc (suc (suc (suc (suc (suc zero)))))))))) p q r s 
 long b (suc (suc (suc (suc (suc (suc (suc (suc (suc (suc (suc zero))))))))))) p q r s t = refl
 long b (suc (suc (suc (suc (suc (suc (suc (suc (suc (suc (suc (suc i)))))))))))) p q r s t = refl
 
-pub thirty-one : (y m : ℤ) → (m ≡ pos 2 → ⊥) → (m ≡ pos 4 → ⊥) → (m ≡ pos 6 → ⊥) → (m ≡ pos 9 → ⊥) → (m ≡ pos 11 → ⊥) → 31 ≡ daysIn y m
+pub thirty-one : (y m : ℤ) → (ofZ w64 m ≡ 2 → ⊥) → (OneOf (4 ∷ 6 ∷ 9 ∷ 11 ∷ []) (ofZ w64 m) → ⊥) → 31 ≡ daysIn y m
 unfolding daysIn
-thirty-one y (pos m) p q r s t =
-    long (leap y) (m - 1) (λ e. p (ap pos (omega arith))) (λ e. q (ap pos (omega arith))) (λ e. r (ap pos (omega arith))) (λ e. s (ap pos (omega arith))) (λ e. t (ap pos (omega arith)))
-thirty-one y (negsuc m) p q r s t = refl
+thirty-one y (pos m) p q =
+    long (leap y) (m - 1) (λ e. p (word e)) (λ e. q (inl (word e))) (λ e. q (inr (inl (word e)))) (λ e. q (inr (inr (inl (word e))))) (λ e. q (inr (inr (inr (word e)))))
+  where
+    word : {k : ℕ} → m - 1 ≡ suc k → ofZ w64 (pos m) ≡ suc (suc k)
+    word e = ap (λ (i : ℕ). ofZ w64 (pos i)) (omega (arith, e))
+thirty-one y (negsuc m) p q = refl
 
 -- each has 28 at least
 abbrev least : ℕ → List ℕ → Bool

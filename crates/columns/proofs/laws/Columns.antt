@@ -11,11 +11,10 @@ use borrow.Author.Tests.{eqb-true}
 use lib.Seq.{take-append-le, drop-append-le, take-at, drop-at, length-take-le}
 use Rattle.columns.specs.declared.number.Form.{Form}
 use Rattle.columns.specs.declared.group.Group.{Group}
-use Rattle.columns.specs.declared.column.Range.{Range}
 use Rattle.columns.specs.Answer.{pick, ok, refusal, barredByte, requiredBlank, outOfRange, wrongLetter, tooWide, chain, both, Answer}
 use Rattle.columns.specs.Bytes.{member}
 use Rattle.columns.specs.Number.{formWidth, goodForm, fieldOf, holds, fieldBytes}
-use Rattle.columns.specs.Column.{Slot, missing, given, Rec, allowed, Rule, ruleBars, Col, numeric, text, letter, group, blank, width, slots, texts, goodGroup, goodCol, good, widths, allSlots, allTexts, barsOf, joined}
+use Rattle.columns.specs.Column.{Slot, missing, given, Rec, Range, allowed, Rule, ruleBars, Col, numeric, text, letter, group, blank, width, slots, texts, goodGroup, goodCol, good, widths, allSlots, allTexts, barsOf, joined}
 use Rattle.columns.specs.Reading.{oneNumber, someText, judge, ruleRefuses, ruleNumber, judgeText, asText, readCell, readColumns}
 use Rattle.columns.specs.Writing.{putNumber, barredIn, putText, writeCell, writeColumns}
 use Rattle.columns.proofs.laws.Clear.{Clear, clear-blanks, barred-clear}

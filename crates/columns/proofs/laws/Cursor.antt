@@ -13,11 +13,10 @@ use Rattle.columns.specs.declared.group.Group.{Group}
 use Rattle.columns.specs.declared.number.Form.{Form}
 use Rattle.columns.specs.declared.number.Field.{Field}
 use Rattle.columns.specs.declared.cursor.CellRead.{CellRead}
-use Rattle.columns.specs.declared.column.Range.{Range}
 use Rattle.columns.specs.Answer.{pick, Answer, ok, refusal, notBlank, wrongLetter}
 use Rattle.columns.specs.Bytes.{isNone, trim, allBlank, member}
 use Rattle.columns.specs.Number.{formWidth, fieldOf}
-use Rattle.columns.specs.Column.{Slot, Rec, allowed, Rule, Col, numeric, text, letter, group, blank, width, firstWidth, secondStart, secondEnd, thirdStart, groupWidth}
+use Rattle.columns.specs.Column.{Slot, Rec, Range, allowed, Rule, Col, numeric, text, letter, group, blank, width, firstWidth, secondStart, secondEnd, thirdStart, groupWidth}
 use Rattle.columns.specs.Group.{threeOf, groupField, judgeGroup}
 use Rattle.columns.specs.Reading.{nothing, someText, judge, ruleRefuses, ruleNumber, readCell}
 use Rattle.columns.specs.Cell.{Found}

@@ -17,9 +17,9 @@ use Rattle.columns.specs.declared.group.Group.{Group}
 use Rattle.columns.specs.Answer.{pick, ok, refusal, outOfRange, tooWide}
 use Rattle.columns.specs.Bytes.{trim, allBlank}
 use Rattle.columns.specs.Number.{formWidth, goodForm, fieldOf, holds, zeroFilled}
-use Rattle.columns.specs.Column.{Slot, missing, given, Rec, allowed, firstWidth, secondStart, secondEnd, thirdStart, groupWidth, looksBack, fromZero, goodPart, goodAlone, goodGroup}
+use Rattle.columns.specs.Column.{Slot, missing, given, Rec, allowed, partRange, firstWidth, secondStart, secondEnd, thirdStart, groupWidth, goodPart, goodGroup}
 use Rattle.columns.specs.Table.{placed}
-use Rattle.columns.specs.Group.{groupRange, groupRec, threeOf, groupField, judgeGroup, groupBytes, groupHolds, putGroup}
+use Rattle.columns.specs.Group.{partsRange, groupRange, groupRec, threeOf, groupField, judgeGroup, groupBytes, groupHolds, putGroup}
 use Rattle.columns.proofs.laws.Form.{form-holds, zero-length, zero-clear, zero-back, zero-first}
 use Rattle.columns.proofs.laws.NumberBack.{trim-blanks}
 use Rattle.columns.proofs.laws.Clear.{Clear, clear-mark, clear-append, clear-blanks}
@@ -45,32 +45,20 @@ pub record Fine (g : Group) : Type 0 where
   pub first : T (goodPart (g .first))
   pub second : T (goodPart (g .second))
   pub third : T (goodPart (g .third))
-  pub firstAlone : T (not (looksBack (g .first .range)))
-  pub secondAlone : T (not (looksBack (g .second .range)))
 
 pub fine : (g : Group) → T (goodGroup g) → Fine g
 fine g h =
-    let a = T-and (leb 45 (g .mark) && leb (g .mark) 58) (goodAlone (g .first) && (goodAlone (g .second) && goodPart (g .third))) h in
+    let a = T-and (leb 45 (g .mark) && leb (g .mark) 58) (goodPart (g .first) && (goodPart (g .second) && goodPart (g .third))) h in
     let m = T-and (leb 45 (g .mark)) (leb (g .mark) 58) (a .0) in
-    let b = T-and (goodAlone (g .first)) (goodAlone (g .second) && goodPart (g .third)) (a .1) in
-    let c = T-and (goodAlone (g .second)) (goodPart (g .third)) (b .1) in
-    let x = T-and (goodPart (g .first)) (not (looksBack (g .first .range))) (b .0) in
-    let y = T-and (goodPart (g .second)) (not (looksBack (g .second .range))) (c .0) in
-    record {
-      low = leb→le 45 (g .mark) (m .0);
-      high = leb→le (g .mark) 58 (m .1);
-      first = x .0;
-      second = y .0;
-      third = c .1;
-      firstAlone = x .1;
-      secondAlone = y .1;
-    }
+    let b = T-and (goodPart (g .first)) (goodPart (g .second) && goodPart (g .third)) (a .1) in
+    let c = T-and (goodPart (g .second)) (goodPart (g .third)) (b .1) in
+    record { low = leb→le 45 (g .mark) (m .0); high = leb→le (g .mark) 58 (m .1); first = b .0; second = c .0; third = c .1 }
 
 pub part-form : (p : Part) → T (goodPart p) → T (goodForm (p .form))
-part-form p h = T-and (goodForm (p .form)) (fromZero (p .range)) h .0
+part-form p h = T-and (goodForm (p .form)) (not (ltZ (p .low) (pos 0))) h .0
 
-pub part-low : (p : Part) → T (goodPart p) → T (fromZero (p .range))
-part-low p h = T-and (goodForm (p .form)) (fromZero (p .range)) h .1
+pub part-low : (p : Part) → T (goodPart p) → T (not (ltZ (p .low) (pos 0)))
+part-low p h = T-and (goodForm (p .form)) (not (ltZ (p .low) (pos 0))) h .1
 
 -- ---- the parts of what is written
 
@@ -180,13 +168,13 @@ module _ (g : Group) (seen : List Slot) (at : ℕ) (h : T (goodGroup g)) where
 
   group-number : (x y z : ℤ) (ys : List ℕ) → groupHolds g x y z ≡ true → groupRange g seen x y z ≡ true → groupBytes g (natAbs x) (natAbs y) (natAbs z) ≡ ys → Grouped g seen at (given x) (given y) (given z) ys
   group-number x y z ys o r e =
-      let a = both-true (allowed (g .first .range) seen x) _ r in
-      let b = both-true (allowed (g .second .range) (seen ++ given x ∷ []) y) _ (a .1) in
+      let a = both-true (allowed (partRange (g .first)) seen x) _ (both-true (partsRange g seen x y z) _ r .0) in
+      let b = both-true (allowed (partRange (g .second)) (seen ++ given x ∷ []) y) _ (a .1) in
       let d = both-true (holds (g .first .form) x) _ o in
       let f = both-true (holds (g .second .form) y) (holds (g .third .form) z) (d .1) in
-      let px : x ≡ pos (natAbs x) = not-below (g .first .range) seen x (part-low (g .first) (fine g h .first)) (a .0) in
-      let py : y ≡ pos (natAbs y) = not-below (g .second .range) (seen ++ given x ∷ []) y (part-low (g .second) (fine g h .second)) (b .0) in
-      let pz : z ≡ pos (natAbs z) = not-below (g .third .range) (seen ++ given x ∷ given y ∷ []) z (part-low (g .third) (fine g h .third)) (b .1) in
+      let px : x ≡ pos (natAbs x) = not-below (g .first) seen x (part-low (g .first) (fine g h .first)) (a .0) in
+      let py : y ≡ pos (natAbs y) = not-below (g .second) (seen ++ given x ∷ []) y (part-low (g .second) (fine g h .second)) (b .0) in
+      let pz : z ≡ pos (natAbs z) = not-below (g .third) (seen ++ given x ∷ given y ∷ []) z (part-low (g .third) (fine g h .third)) (b .1) in
       let hx : holds (g .first .form) (pos (natAbs x)) ≡ true = ap (holds (g .first .form)) (sym px) ∙ d .0 in
       let hy : holds (g .second .form) (pos (natAbs y)) ≡ true = ap (holds (g .second .form)) (sym py) ∙ f .0 in
       let hz : holds (g .third .form) (pos (natAbs z)) ≡ true = ap (holds (g .third .form)) (sym pz) ∙ f .1 in

@@ -1,6 +1,6 @@
 -- Laws of the range step, as the code comes to it.
-use mathlib.Core.Path.{_≡_, refl}
-use mathlib.Core.Bool.{Bool, true, false, not, false≢true}
+use mathlib.Core.Path.{_≡_, refl, sym}
+use mathlib.Core.Bool.{Bool, true, false, not}
 use mathlib.Core.List.{List, [], _∷_, _++_}
 use Prim.Native.Nat.{ℕ, zero, suc, _+_, _≤_}
 use native.Mathlib.Omega.{arith}
@@ -13,11 +13,13 @@ use mir.Val.{SFits, toZ, ofZ}
 use mir.ValLaws.{toZ-ofZ}
 use lib.Signed.{ltZ, leZ}
 use Rattle.columns.specs.Answer.{pick}
-use Rattle.columns.specs.declared.column.Range.{Range}
-use Rattle.columns.specs.declared.column.Range.the-variants as R
-use Rattle.columns.specs.Column.{Slot, given, within, lastDay, lastDayAfter, allowed, looksBack, fromZero}
+use Rattle.columns.specs.declared.group.Part.{Part}
+use Rattle.columns.specs.declared.group.Group.{Group}
+use Rattle.columns.specs.Group.{partsRange, groupRange}
+use Rattle.columns.specs.Column.{Slot, given, calendarDay, within, lastDay, lastDayAfter, allowed, partRange}
 use Rattle.columns.specs.Table.{rangeAt}
 use Rattle.columns.proofs.laws.Calendar.{after-two}
+use Rattle.columns.proofs.laws.Tests.{and-true}
 
 -- a test of two signed numbers, as the code makes it
 pub test-of : (v w : ℤ) (b : Bool) → SFits w64 v → SFits w64 w → ltZ (toZ w64 (ofZ w64 v)) (toZ w64 (ofZ w64 w)) ≡ b → ltZ v w ≡ b
@@ -57,31 +59,33 @@ module _ (rs : List ℤ) (k : ℕ) (seen : List Slot) (v : ℤ) where
   unfolding allowed
   allowed-span a b c = rw (ne-eqb k 0 a, ne-eqb k 1 b, ne-eqb k 2 c)
 
--- a range that the code has at hand, after a year and a month
-module _ (seen : List Slot) (v : ℤ) where
-  pub any-allowed : true ≡ allowed R.AsHeld seen v
-  unfolding allowed
-  any-allowed = refl
+-- number 2 is a day
+pub range-day : (rs : List ℤ) (k : ℕ) → k ≡ 2 → rangeAt rs k ≡ calendarDay
+range-day rs k e = rw e
 
-  pub zero-allowed : leZ (pos 0) v ≡ allowed R.NotNegative seen v
-  unfolding allowed
-  zero-allowed = refl
-
-  pub span-allowed : (lo hi : ℤ) → within lo hi v ≡ allowed (R.Span lo hi) seen v
-  unfolding allowed
-  span-allowed lo hi = refl
-
-  pub day-allowed : (y m : ℤ) → within (pos 1) (pos (lastDay (given y) (given m))) v ≡ allowed R.Day (seen ++ given y ∷ given m ∷ []) v
-  unfolding allowed
-  day-allowed y m = rw (after-two seen (given y) (given m))
-
--- a range that does not look back holds the same numbers, whatever came before
-pub alone : (g : Range) (s t : List Slot) (v : ℤ) → T (not (looksBack g)) → allowed g s v ≡ allowed g t v
+pub part-allowed : (p : Part) (seen : List Slot) (v : ℤ) → within (p .low) (p .high) v ≡ allowed (partRange p) seen v
 unfolding allowed
-alone R.AsHeld s t v h = refl
-alone R.NotNegative s t v h = refl
-alone R.Day s t v h = absurd h
-alone (R.Span lo hi) s t v h = refl
+part-allowed p seen v = refl
+
+-- a day after some numbers; after a year and a month
+pub day-allowed : (seen : List Slot) (v : ℤ) → within (pos 1) (pos (lastDayAfter seen)) v ≡ allowed calendarDay seen v
+unfolding allowed
+day-allowed seen v = refl
+
+pub day-of-month : (seen : List Slot) (y m v : ℤ) → within (pos 1) (pos (lastDay (given y) (given m))) v ≡ allowed calendarDay (seen ++ given y ∷ given m ∷ []) v
+unfolding allowed
+day-of-month seen y m v = rw (after-two seen (given y) (given m))
+
+-- three numbers of a group, as the code comes to them
+module _ (g : Group) (seen : List Slot) (x y z : ℤ) where
+  pub group-undated : g .dated ≡ false → partsRange g seen x y z ≡ groupRange g seen x y z
+  group-undated e = rw e (sym (and-true (partsRange g seen x y z)))
+
+  pub group-out : partsRange g seen x y z ≡ false → false ≡ groupRange g seen x y z
+  group-out e = rw e
+
+  pub group-dated : g .dated ≡ true → partsRange g seen x y z ≡ true → within (pos 1) (pos (lastDay (given x) (given y))) z ≡ groupRange g seen x y z
+  group-dated e f = rw (e, f) (day-of-month seen x y z)
 
 -- a number in a range from zero on is no negative one
 low-case : (lo hi : ℤ) (n : ℕ) (b : Bool) → ltZ (negsuc n) lo ≡ b → T (not (ltZ lo (pos 0))) → pick b false (pick (ltZ hi (negsuc n)) false true) ≡ true → ⊥
@@ -89,10 +93,7 @@ low-case lo hi n true e t q = let z : _≡_ {A = ℕ} 0 1 = cc in omega arith
 low-case (pos m) hi n false e t q = let z : _≡_ {A = ℕ} 0 1 = cc in omega arith
 low-case (negsuc m) hi n false e t q = absurd t
 
-pub not-below : (g : Range) (seen : List Slot) (v : ℤ) → T (fromZero g) → allowed g seen v ≡ true → v ≡ pos (natAbs v)
+pub not-below : (p : Part) (seen : List Slot) (v : ℤ) → T (not (ltZ (p .low) (pos 0))) → allowed (partRange p) seen v ≡ true → v ≡ pos (natAbs v)
 unfolding allowed
-not-below g seen (pos n) t e = refl
-not-below R.AsHeld seen (negsuc n) t e = absurd t
-not-below R.NotNegative seen (negsuc n) t e = absurd (false≢true e)
-not-below R.Day seen (negsuc n) t e = absurd (false≢true e)
-not-below (R.Span lo hi) seen (negsuc n) t e = absurd (low-case lo hi n (ltZ (negsuc n) lo) refl t e)
+not-below p seen (pos n) t e = refl
+not-below p seen (negsuc n) t e = absurd (low-case (p .low) (p .high) n (ltZ (negsuc n) (p .low)) refl t e)

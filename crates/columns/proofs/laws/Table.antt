@@ -12,10 +12,9 @@ use lib.Seq.{slice, take-at, drop-at}
 use Rattle.columns.specs.declared.column.Column.{Column}
 use Rattle.columns.specs.declared.number.Form.{Form}
 use Rattle.columns.specs.declared.group.Group.{Group}
-use Rattle.columns.specs.declared.column.Range.{Range}
 use Rattle.columns.specs.Answer.{pick}
 use Rattle.columns.specs.Number.{formWidth, goodForm}
-use Rattle.columns.specs.Column.{Slot, missing, given, Rule, clockTime, calendarDate, Col, numeric, text, letter, group, blank, width, slots, texts, goodGroup, goodCol, good, widths, allSlots, allTexts, inStretch, bracketsIn}
+use Rattle.columns.specs.Column.{Slot, missing, given, Range, Rule, clockTime, calendarDate, Col, numeric, text, letter, group, blank, width, slots, texts, goodGroup, goodCol, good, widths, allSlots, allTexts, inStretch, bracketsIn}
 use Rattle.columns.specs.Table.{columnIn, rangeAt, ruleAt, groupAt, formIn, colOf, columnsOf, sizesOf, sound, Sound, widthBy, slotsBy, textsBy, slotOf, slotsOf, flagOf, valueOf, flagsOf, valuesOf, over, Table}
 use Rattle.columns.proofs.laws.Tests.{T-and, and-T}
 use Rattle.columns.specs.declared.number.Form.the-variants as N

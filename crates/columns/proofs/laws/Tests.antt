@@ -21,6 +21,10 @@ pub both-true : (s t : Bool) → s && t ≡ true → (s ≡ true) × (t ≡ true
 both-true true t e = (refl, e)
 both-true false t e = let z : _≡_ {A = ℕ} 0 1 = cc in let y : ⊥ = omega arith in absurd y
 
+pub and-true : (t : Bool) → t && true ≡ t
+and-true true = refl
+and-true false = refl
+
 pub and-false : (t : Bool) → t && false ≡ false
 and-false true = refl
 and-false false = refl

@@ -13,10 +13,9 @@ use borrow.Rule.Slice.PartMut.{midOf, putMid, mid-len, put-same}
 use Rattle.columns.specs.declared.Outcome.{Outcome}
 use Rattle.columns.specs.declared.column.Column.{Column}
 use Rattle.columns.specs.declared.number.Form.{Form}
-use Rattle.columns.specs.declared.column.Range.{Range}
 use Rattle.columns.specs.Answer.{pick, Answer, ok, refusal, both, wrongLetter, tooShort}
 use Rattle.columns.specs.Bytes.{member}
-use Rattle.columns.specs.Column.{Slot, missing, allowed, Rule, ruleBars, Col, numeric, text, letter, blank, width, slots, texts, good, widths, allSlots, allTexts}
+use Rattle.columns.specs.Column.{Slot, missing, Range, allowed, Rule, ruleBars, Col, numeric, text, letter, blank, width, slots, texts, good, widths, allSlots, allTexts}
 use Rattle.columns.specs.Group.{putGroup}
 use Rattle.columns.specs.Reading.{ruleRefuses, ruleNumber, judgeText}
 use Rattle.columns.specs.Writing.{putNumber, putText, writeCell, writeColumns, writeLine, writePart}

@@ -17,7 +17,7 @@ returns-2 : tie.Need-returns-2
 returns-2 c =
     let a = c .before .before .before .before .before .args in
     let z = toZ-ofZ w64 (a .v) (search needs) in
-    rw (z, c .before .before .int-field .ensures, c .before .int-field2 .ensures) at (c .is-day .ensures)
+    rw (z, c .before .before .read-any-int .ensures, c .before .read-any-int2 .ensures) at (c .is-day .ensures)
 
 pub day-before-spec : {M : Type 1} → statement M
 day-before-spec =

@@ -1,14 +1,16 @@
 use borrow.Author.Needs.{needs}
 use native.Mathlib.Omega.{arith}
-use mathlib.Core.Path.{_≡_, refl, _∙_, subst}
+use mathlib.Core.Path.{_≡_, refl, ap, _∙_, subst}
 use Prim.Native.Nat.{_≤_, _+_}
 use lib.ListN.{length, take}
 use lib.Seq.{slice}
-use Rattle.columns.specs.Column.{Col, width, groupWidth}
+use Rattle.columns.specs.Column.{Col, Range, calendarDay, numeric, width, groupWidth}
 use Rattle.columns.specs.Table.{rangeAt, ruleAt, groupAt, colOf, slotsOf}
 use Rattle.columns.proofs.laws.Table.{good-number, good-text, good-of-group, col-integer, col-decimal, col-text, col-letter, col-group, col-blank}
 use Rattle.columns.proofs.laws.Form.{good-int, good-dec, form-integer, form-decimal}
 use Rattle.columns.proofs.laws.Cursor.{read-number-is, read-text-is, read-letter-is, read-group-is, read-gap-is, found-as}
+use Rattle.columns.proofs.laws.Ranges.{range-day}
+use Rattle.columns.specs.declared.number.Form.the-variants as N
 use Rattle.columns.proofs.cursor.Cursor.cell.Statement.{statement}
 use Rattle.columns.proofs.cursor.Cursor.cell.Tie as tie
 
@@ -19,59 +21,91 @@ integer-requires c κs =
     let e = col-integer (a .c) (a .ranges .now) (a .letters .now) (c .if1 .taken) in
     (subst (λ (x : Col). a .self .at + width x ≤ length (a .line .now)) e (p .fits), good-int (a .c .width) (good-number (colOf (a .c) (a .ranges .now) (a .letters .now)) _ _ _ e (p .fine)) .1)
 
-judged-requires : tie.Need-judged-requires
-judged-requires c κs =
-    let p = c .before .before .before .before .before .before .pre .1 .1 in
-    (omega (arith, p .fits, p .low), (c .before .before .before .before .before .before .pre .1 .0, (p .same, p .seen)))
+judged-day-requires : tie.Need-judged-day-requires
+judged-day-requires c κs =
+    let p = c .before .before .before .before .before .before .before .pre .1 .1 in
+    (omega (arith, p .fits, p .low), (p .same, p .seen))
 
 returns : tie.Need-returns
 returns c =
-    let a = c .before .before .before .before .before .before .before .args in
+    let a = c .before .before .before .before .before .before .before .before .args in
     let seen = take (a .k) (slotsOf (a .flags .now) (a .values .now)) in
-    let e = col-integer (a .c) (a .ranges .now) (a .letters .now) (c .before .before .before .if1 .taken) in
+    let e = col-integer (a .c) (a .ranges .now) (a .letters .now) (c .before .before .before .before .if1 .taken) in
     let w : a .c .width ≡ width (colOf (a .c) (a .ranges .now) (a .letters .now)) = rw e in
     let b = slice (a .self .at) (a .self .at + a .c .width) (a .line .now) in
     found-as _ (colOf (a .c) (a .ranges .now) (a .letters .now)) seen _ (a .self .at) (a .c .width) (a .line .now) w
-    (read-number-is (colOf (a .c) (a .ranges .now) (a .letters .now)) seen (a .self .at) b _ _ (a .c .required) (rangeAt (a .ranges .now) (a .c .last)) _ e (c .before .before .integer .ensures .0 ∙ form-integer (a .c .width) b) (c .judged .ensures b))
-    (record { answer = refl; next = c .before .before .integer .ensures .1 })
+    (read-number-is (colOf (a .c) (a .ranges .now) (a .letters .now)) seen (a .self .at) b _ _ (a .c .required) calendarDay _ (e ∙ ap (λ (g : Range). numeric (N.Integer (a .c .width)) (a .c .required) g) (range-day (a .ranges .now) (a .c .last) (c .before .if2 .taken))) (c .before .before .before .integer .ensures .0 ∙ form-integer (a .c .width) b) (c .judged-day .ensures b))
+    (record { answer = refl; next = c .before .before .before .integer .ensures .1 })
 
-decimal-requires : tie.Need-decimal-requires
-decimal-requires c κs =
-    let a = c .before .before .before .before .before .args in
-    let p = c .before .before .before .before .before .pre .1 .1 in
-    let e = col-decimal (a .c) (a .ranges .now) (a .letters .now) (c .if2 .taken) in
-    let g = good-dec (a .c .width) (a .c .place) (good-number (colOf (a .c) (a .ranges .now) (a .letters .now)) _ _ _ e (p .fine)) in
-    (subst (λ (x : Col). a .self .at + width x ≤ length (a .line .now)) e (p .fits), (omega (arith, g .0), g .1))
-
-judged-requires-2 : tie.Need-judged-requires-2
-judged-requires-2 c κs =
-    let p = c .before .before .before .before .before .before .before .pre .1 .1 in
-    (omega (arith, p .fits, p .low), (c .before .before .before .before .before .before .before .pre .1 .0, (p .same, p .seen)))
+judged-requires : tie.Need-judged-requires
+judged-requires c κs =
+    let p = c .before .before .before .before .before .before .before .pre in
+    (omega (arith, p .1 .1 .fits, p .1 .1 .low), (p .1 .0, c .if2 .left))
 
 returns-2 : tie.Need-returns-2
 returns-2 c =
     let a = c .before .before .before .before .before .before .before .before .args in
     let seen = take (a .k) (slotsOf (a .flags .now) (a .values .now)) in
-    let e = col-decimal (a .c) (a .ranges .now) (a .letters .now) (c .before .before .before .if2 .taken) in
+    let e = col-integer (a .c) (a .ranges .now) (a .letters .now) (c .before .before .before .before .if1 .taken) in
     let w : a .c .width ≡ width (colOf (a .c) (a .ranges .now) (a .letters .now)) = rw e in
     let b = slice (a .self .at) (a .self .at + a .c .width) (a .line .now) in
     found-as _ (colOf (a .c) (a .ranges .now) (a .letters .now)) seen _ (a .self .at) (a .c .width) (a .line .now) w
-    (read-number-is (colOf (a .c) (a .ranges .now) (a .letters .now)) seen (a .self .at) b _ _ (a .c .required) (rangeAt (a .ranges .now) (a .c .last)) _ e (c .before .before .decimal .ensures .0 ∙ form-decimal (a .c .width) (a .c .place) b) (c .judged2 .ensures b))
-    (record { answer = refl; next = c .before .before .decimal .ensures .1 })
+    (read-number-is (colOf (a .c) (a .ranges .now) (a .letters .now)) seen (a .self .at) b _ _ (a .c .required) (rangeAt (a .ranges .now) (a .c .last)) _ e (c .before .before .before .integer .ensures .0 ∙ form-integer (a .c .width) b) (c .judged .ensures seen b))
+    (record { answer = refl; next = c .before .before .before .integer .ensures .1 })
+
+decimal-requires : tie.Need-decimal-requires
+decimal-requires c κs =
+    let a = c .before .before .before .before .before .args in
+    let p = c .before .before .before .before .before .pre .1 .1 in
+    let e = col-decimal (a .c) (a .ranges .now) (a .letters .now) (c .if3 .taken) in
+    let g = good-dec (a .c .width) (a .c .place) (good-number (colOf (a .c) (a .ranges .now) (a .letters .now)) _ _ _ e (p .fine)) in
+    (subst (λ (x : Col). a .self .at + width x ≤ length (a .line .now)) e (p .fits), (omega (arith, g .0), g .1))
+
+judged-day-requires-2 : tie.Need-judged-day-requires-2
+judged-day-requires-2 c κs =
+    let p = c .before .before .before .before .before .before .before .before .pre .1 .1 in
+    (omega (arith, p .fits, p .low), (p .same, p .seen))
+
+returns-3 : tie.Need-returns-3
+returns-3 c =
+    let a = c .before .before .before .before .before .before .before .before .before .args in
+    let seen = take (a .k) (slotsOf (a .flags .now) (a .values .now)) in
+    let e = col-decimal (a .c) (a .ranges .now) (a .letters .now) (c .before .before .before .before .if3 .taken) in
+    let w : a .c .width ≡ width (colOf (a .c) (a .ranges .now) (a .letters .now)) = rw e in
+    let b = slice (a .self .at) (a .self .at + a .c .width) (a .line .now) in
+    found-as _ (colOf (a .c) (a .ranges .now) (a .letters .now)) seen _ (a .self .at) (a .c .width) (a .line .now) w
+    (read-number-is (colOf (a .c) (a .ranges .now) (a .letters .now)) seen (a .self .at) b _ _ (a .c .required) calendarDay _ (e ∙ ap (λ (g : Range). numeric (N.Decimal (a .c .width) (a .c .place)) (a .c .required) g) (range-day (a .ranges .now) (a .c .last) (c .before .if4 .taken))) (c .before .before .before .decimal .ensures .0 ∙ form-decimal (a .c .width) (a .c .place) b) (c .judged-day2 .ensures b))
+    (record { answer = refl; next = c .before .before .before .decimal .ensures .1 })
+
+judged-requires-2 : tie.Need-judged-requires-2
+judged-requires-2 c κs =
+    let p = c .before .before .before .before .before .before .before .before .pre in
+    (omega (arith, p .1 .1 .fits, p .1 .1 .low), (p .1 .0, c .if4 .left))
+
+returns-4 : tie.Need-returns-4
+returns-4 c =
+    let a = c .before .before .before .before .before .before .before .before .before .args in
+    let seen = take (a .k) (slotsOf (a .flags .now) (a .values .now)) in
+    let e = col-decimal (a .c) (a .ranges .now) (a .letters .now) (c .before .before .before .before .if3 .taken) in
+    let w : a .c .width ≡ width (colOf (a .c) (a .ranges .now) (a .letters .now)) = rw e in
+    let b = slice (a .self .at) (a .self .at + a .c .width) (a .line .now) in
+    found-as _ (colOf (a .c) (a .ranges .now) (a .letters .now)) seen _ (a .self .at) (a .c .width) (a .line .now) w
+    (read-number-is (colOf (a .c) (a .ranges .now) (a .letters .now)) seen (a .self .at) b _ _ (a .c .required) (rangeAt (a .ranges .now) (a .c .last)) _ e (c .before .before .before .decimal .ensures .0 ∙ form-decimal (a .c .width) (a .c .place) b) (c .judged2 .ensures seen b))
+    (record { answer = refl; next = c .before .before .before .decimal .ensures .1 })
 
 text-requires : tie.Need-text-requires
 text-requires c κs =
     let a = c .before .before .before .before .before .before .args in
     let p = c .before .before .before .before .before .before .pre .1 .1 in
-    let e = col-text (a .c) (a .ranges .now) (a .letters .now) (c .if3 .taken) in
+    let e = col-text (a .c) (a .ranges .now) (a .letters .now) (c .if5 .taken) in
     let q = subst (λ (x : Col). a .self .at + width x ≤ length (a .line .now)) e (p .fits) in
     (q, (good-text (a .c .width) (ruleAt (a .c .last)) (colOf (a .c) (a .ranges .now) (a .letters .now)) e (p .fine), omega (arith, q, p .low)))
 
-returns-3 : tie.Need-returns-3
-returns-3 c =
+returns-5 : tie.Need-returns-5
+returns-5 c =
     let a = c .before .before .before .before .before .before .before .args in
     let seen = take (a .k) (slotsOf (a .flags .now) (a .values .now)) in
-    let e = col-text (a .c) (a .ranges .now) (a .letters .now) (c .before .if3 .taken) in
+    let e = col-text (a .c) (a .ranges .now) (a .letters .now) (c .before .if5 .taken) in
     let w : a .c .width ≡ width (colOf (a .c) (a .ranges .now) (a .letters .now)) = rw e in
     found-as _ (colOf (a .c) (a .ranges .now) (a .letters .now)) seen _ (a .self .at) (a .c .width) (a .line .now) w (read-text-is (colOf (a .c) (a .ranges .now) (a .letters .now)) seen (a .self .at) (slice (a .self .at) (a .self .at + a .c .width) (a .line .now)) (a .c .width) (ruleAt (a .c .last)) e) (c .text .ensures)
 
@@ -79,15 +113,15 @@ letter-requires : tie.Need-letter-requires
 letter-requires c κs =
     let a = c .before .before .before .before .before .before .before .args in
     let p = c .before .before .before .before .before .before .before .pre .1 .1 in
-    let e = col-letter (a .c) (a .ranges .now) (a .letters .now) (c .if4 .taken) in
+    let e = col-letter (a .c) (a .ranges .now) (a .letters .now) (c .if6 .taken) in
     let q = subst (λ (x : Col). a .self .at + width x ≤ length (a .line .now)) e (p .fits) in
     (q, (omega arith, omega (arith, q, p .low)))
 
-returns-4 : tie.Need-returns-4
-returns-4 c =
+returns-6 : tie.Need-returns-6
+returns-6 c =
     let a = c .before .before .before .before .before .before .before .before .args in
     let seen = take (a .k) (slotsOf (a .flags .now) (a .values .now)) in
-    let e = col-letter (a .c) (a .ranges .now) (a .letters .now) (c .before .if4 .taken) in
+    let e = col-letter (a .c) (a .ranges .now) (a .letters .now) (c .before .if6 .taken) in
     let w : 1 ≡ width (colOf (a .c) (a .ranges .now) (a .letters .now)) = rw e in
     found-as _ (colOf (a .c) (a .ranges .now) (a .letters .now)) seen _ (a .self .at) 1 (a .line .now) w (read-letter-is (colOf (a .c) (a .ranges .now) (a .letters .now)) seen (a .self .at) (slice (a .self .at) (a .self .at + 1) (a .line .now)) (slice (a .c .place) (a .c .place + a .c .last) (a .letters .now)) e) (c .letter .ensures)
 
@@ -95,22 +129,20 @@ group-requires : tie.Need-group-requires
 group-requires c κs =
     let a = c .before .before .before .before .before .before .before .before .before .args in
     let p = c .before .before .before .before .before .before .before .before .before .pre .1 .1 in
-    let e = col-group (a .c) (a .ranges .now) (a .letters .now) (c .before .if5 .taken) in
+    let e = col-group (a .c) (a .ranges .now) (a .letters .now) (c .before .if7 .taken) in
     let q = subst (λ (x : Col). a .self .at + width x ≤ length (a .line .now)) e (p .fits) in
     rw (c .group-at .ensures) (q, good-of-group (groupAt (a .c .last)) (colOf (a .c) (a .ranges .now) (a .letters .now)) e (p .fine))
 
 grouped-requires : tie.Need-grouped-requires
 grouped-requires c κs =
-    let a = c .before .before .before .before .before .before .before .before .before .before .before .args in
     let p = c .before .before .before .before .before .before .before .before .before .before .before .pre .1 .1 in
-    let e = col-group (a .c) (a .ranges .now) (a .letters .now) (c .before .before .before .if5 .taken) in
-    (omega (arith, p .fits, p .low), rw (c .before .before .group-at .ensures) (good-of-group (groupAt (a .c .last)) (colOf (a .c) (a .ranges .now) (a .letters .now)) e (p .fine)))
+    omega (arith, p .fits, p .low)
 
-returns-5 : tie.Need-returns-5
-returns-5 c =
+returns-7 : tie.Need-returns-7
+returns-7 c =
     let a = c .before .before .before .before .before .before .before .before .before .before .before .before .args in
     let seen = take (a .k) (slotsOf (a .flags .now) (a .values .now)) in
-    let e = col-group (a .c) (a .ranges .now) (a .letters .now) (c .before .before .before .before .if5 .taken) in
+    let e = col-group (a .c) (a .ranges .now) (a .letters .now) (c .before .before .before .before .if7 .taken) in
     let f = c .before .before .before .group-at .ensures in
     let w : groupWidth (groupAt (a .c .last)) ≡ width (colOf (a .c) (a .ranges .now) (a .letters .now)) = rw e in
     let b = slice (a .self .at) (a .self .at + groupWidth (groupAt (a .c .last))) (a .line .now) in
@@ -123,15 +155,15 @@ blanks-requires : tie.Need-blanks-requires
 blanks-requires c κs =
     let a = c .before .before .before .before .before .before .before .before .args in
     let p = c .before .before .before .before .before .before .before .before .pre .1 .1 in
-    let k : 5 ≤ a .c .kind = omega (arith, c .if5 .left, c .before .if4 .left, c .before .before .if3 .left, c .before .before .before .if2 .left, c .before .before .before .before .if1 .left) in
+    let k : 5 ≤ a .c .kind = omega (arith, c .if7 .left, c .before .if6 .left, c .before .before .if5 .left, c .before .before .before .if3 .left, c .before .before .before .before .if1 .left) in
     let e = col-blank (a .c) (a .ranges .now) (a .letters .now) k in
     (subst (λ (x : Col). a .self .at + width x ≤ length (a .line .now)) e (p .fits), p .low)
 
-returns-6 : tie.Need-returns-6
-returns-6 c =
+returns-8 : tie.Need-returns-8
+returns-8 c =
     let a = c .before .before .before .before .before .before .before .before .before .args in
     let seen = take (a .k) (slotsOf (a .flags .now) (a .values .now)) in
-    let k : 5 ≤ a .c .kind = omega (arith, c .before .if5 .left, c .before .before .if4 .left, c .before .before .before .if3 .left, c .before .before .before .before .if2 .left, c .before .before .before .before .before .if1 .left) in
+    let k : 5 ≤ a .c .kind = omega (arith, c .before .if7 .left, c .before .before .if6 .left, c .before .before .before .if5 .left, c .before .before .before .before .if3 .left, c .before .before .before .before .before .if1 .left) in
     let e = col-blank (a .c) (a .ranges .now) (a .letters .now) k in
     let w : a .c .width ≡ width (colOf (a .c) (a .ranges .now) (a .letters .now)) = rw e in
     found-as _ (colOf (a .c) (a .ranges .now) (a .letters .now)) seen _ (a .self .at) (a .c .width) (a .line .now) w (read-gap-is (colOf (a .c) (a .ranges .now) (a .letters .now)) seen (a .self .at) (slice (a .self .at) (a .self .at + a .c .width) (a .line .now)) (a .c .width) e) (c .blanks .ensures)
@@ -141,19 +173,23 @@ cell-spec =
     tie.close
     (tie.spec
     integer-requires
-    judged-requires
+    judged-day-requires
     returns
-    decimal-requires
-    judged-requires-2
+    judged-requires
     returns-2
-    text-requires
+    decimal-requires
+    judged-day-requires-2
     returns-3
+    judged-requires-2
+    returns-4
+    text-requires
+    returns-5
     (λ c. search needs)
     letter-requires
-    returns-4
+    returns-6
     (λ c κs. search needs)
     group-requires
     grouped-requires
-    returns-5
+    returns-7
     blanks-requires
-    returns-6)
+    returns-8)
