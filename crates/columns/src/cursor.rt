@@ -239,54 +239,15 @@ impl Cursor {
         }
     }
 
-    // Any column of a table, after the first k numbers of the record.
-    pub fn cell(
-        self,
-        line: &[u8],
-        c: Column,
-        ranges: &[i64],
-        letters: &[u8],
-        flags: &[u8],
-        values: &[i64],
-        k: usize,
-    ) -> CellRead
-        requires { ⌜ (c .place < 512) × ((c .last < 128) × Readable (colOf c (now ranges) (now letters)) (self .at) (length (now line)) k (length (now flags)) (length (now values))) ⌝ }
-        ensures { λ r. ⌜ Found (readCell (colOf c (now (ranges .entry)) (now (letters .entry))) (take k (slotsOf (now (flags .entry)) (now (values .entry)))) (self .at) (slice (self .at) (self .at + width (colOf c (now (ranges .entry)) (now (letters .entry)))) (now (line .entry)))) r (self .at) (width (colOf c (now (ranges .entry)) (now (letters .entry)))) (slice (self .at) (self .at + width (colOf c (now (ranges .entry)) (now (letters .entry)))) (now (line .entry))) ⌝ }
+    // A column that is no number.
+    fn other(self, line: &[u8], c: Column, letters: &[u8]) -> CellRead
+        requires { ⌜ (2 ≤ c .kind) × ((c .place < 512) × ((c .last < 128) × Readable (colOf c [] (now letters)) (self .at) (length (now line)) 0 0 0)) ⌝ }
+        ensures { λ r. ⌜ ((seen : List Slot) → Found (readCell (colOf c [] (now (letters .entry))) seen (self .at) (slice (self .at) (self .at + width (colOf c [] (now (letters .entry)))) (now (line .entry)))) r (self .at) (width (colOf c [] (now (letters .entry)))) (slice (self .at) (self .at + width (colOf c [] (now (letters .entry)))) (now (line .entry)))) ⌝ }
     {
         let at = self.at;
         let kind = c.kind;
         let place = c.place;
         let last = c.last;
-        if kind == 0 {
-            let got = self.integer(line, c.width);
-            let field = got.field;
-            let next = got.next;
-            if last == 2 {
-                return CellRead {
-                    cell: judged_day(field, at, c, flags, values, k),
-                    next,
-                };
-            }
-            return CellRead {
-                cell: judged(field, at, c, ranges),
-                next,
-            };
-        }
-        if kind == 1 {
-            let got = self.decimal(line, c.width, place);
-            let field = got.field;
-            let next = got.next;
-            if last == 2 {
-                return CellRead {
-                    cell: judged_day(field, at, c, flags, values, k),
-                    next,
-                };
-            }
-            return CellRead {
-                cell: judged(field, at, c, ranges),
-                next,
-            };
-        }
         if kind == 2 {
             return self.text(line, c.width, last);
         }
@@ -304,5 +265,55 @@ impl Cursor {
             };
         }
         self.blanks(line, c.width)
+    }
+
+    // Any column of a table, after the first k numbers of the record.
+    pub fn cell(
+        self,
+        line: &[u8],
+        c: Column,
+        ranges: &[i64],
+        letters: &[u8],
+        flags: &[u8],
+        values: &[i64],
+        k: usize,
+    ) -> CellRead
+        requires { ⌜ (c .place < 512) × ((c .last < 128) × Readable (colOf c (now ranges) (now letters)) (self .at) (length (now line)) k (length (now flags)) (length (now values))) ⌝ }
+        ensures { λ r. ⌜ Found (readCell (colOf c (now (ranges .entry)) (now (letters .entry))) (take k (slotsOf (now (flags .entry)) (now (values .entry)))) (self .at) (slice (self .at) (self .at + width (colOf c (now (ranges .entry)) (now (letters .entry)))) (now (line .entry)))) r (self .at) (width (colOf c (now (ranges .entry)) (now (letters .entry)))) (slice (self .at) (self .at + width (colOf c (now (ranges .entry)) (now (letters .entry)))) (now (line .entry))) ⌝ }
+    {
+        let at = self.at;
+        let kind = c.kind;
+        let last = c.last;
+        if kind == 0 {
+            let got = self.integer(line, c.width);
+            let field = got.field;
+            let next = got.next;
+            if last == 2 {
+                return CellRead {
+                    cell: judged_day(field, at, c, flags, values, k),
+                    next,
+                };
+            }
+            return CellRead {
+                cell: judged(field, at, c, ranges),
+                next,
+            };
+        }
+        if kind == 1 {
+            let got = self.decimal(line, c.width, c.place);
+            let field = got.field;
+            let next = got.next;
+            if last == 2 {
+                return CellRead {
+                    cell: judged_day(field, at, c, flags, values, k),
+                    next,
+                };
+            }
+            return CellRead {
+                cell: judged(field, at, c, ranges),
+                next,
+            };
+        }
+        self.other(line, c, letters)
     }
 }

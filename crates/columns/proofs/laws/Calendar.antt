@@ -14,7 +14,7 @@ use types.Run.{OneOf}
 use mir.Syntax.{w64}
 use mir.Val.{SFits, toZ, ofZ}
 use mir.ValLaws.{toZ-ofZ}
-use borrow.Author.Tests.{eq-eqb, ne-eqb, lt-ltb, le-ltb, le-leb, lt-leb, ltb-true, ltb-false, leb-true, leb-false}
+use borrow.Author.Tests.{eq-eqb, ne-eqb, lt-ltb, le-ltb, ltb-true, ltb-false, leb-true, leb-false}
 use Rattle.columns.specs.Answer.{pick}
 use Rattle.columns.specs.Calendar.{leap, monthLengths, daysIn}
 use Rattle.columns.specs.Column.{Slot, missing, given, calendarDay, within, lastDay, lastDayAfter, allowed}

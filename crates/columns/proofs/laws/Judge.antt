@@ -14,7 +14,7 @@ use Rattle.columns.specs.declared.number.Form.{Form}
 use Rattle.columns.specs.declared.column.Column.{Column}
 use Rattle.columns.specs.Answer.{pick, Answer, ok, refusal, isOk, both, chain, requiredBlank, outOfRange}
 use Rattle.columns.specs.Number.{intField, fieldOf}
-use Rattle.columns.specs.Column.{Slot, missing, given, slotIn, Rec, joined, lastDay, lastDayAfter, Range, allowed, Rule, Col, numeric, text, letter, group, blank, width, goodCol, good, widths}
+use Rattle.columns.specs.Column.{Slot, missing, given, slotIn, Rec, joined, lastDayAfter, Range, allowed, Rule, Col, numeric, text, letter, group, blank, width, goodCol, good, widths}
 use Rattle.columns.specs.Reading.{oneNumber, judge, ruleRefuses, ruleNumber, judgeText, asText, readCell, readColumns}
 use Rattle.columns.specs.Table.{columnIn, rangeAt, colOf, ruleAt, columnsOf}
 use Rattle.columns.specs.Judge.{simpleCol, looksBack, isDay, dateTo, simple, lastDayBefore, Judged, Judgeable}

@@ -31,6 +31,10 @@ module _ (c : Column) (rs : List ℤ) (ls : List ℕ) where
   pub col-decimal : c .kind ≡ 1 → colOf c rs ls ≡ numeric (N.Decimal (c .width) (c .place)) (c .required) (rangeAt rs (c .last))
   col-decimal e = rw e
 
+  -- one that is no number has no range
+  pub col-other : 2 ≤ c .kind → colOf c rs ls ≡ colOf c [] ls
+  col-other h = rw (le-ltb (c .kind) 2 h)
+
   pub col-text : c .kind ≡ 2 → colOf c rs ls ≡ text (c .width) (ruleAt (c .last))
   col-text e = rw e
 

@@ -1,11 +1,8 @@
 use borrow.Author.Needs.{needs}
-use mathlib.Core.Path.{_∙_}
-use lib.IntN.{pos}
 use mir.Syntax.{w64}
 use mir.ValLaws.{toZ-ofZ}
 use Rattle.columns.specs.Column.{slotIn, lastDay}
 use Rattle.columns.proofs.laws.Calendar.{last-least, early-day, late-day}
-use Rattle.columns.proofs.laws.Ranges.{test-of}
 use Rattle.columns.proofs.calendar.is_day.Statement.{statement}
 use Rattle.columns.proofs.calendar.is_day.Tie as tie
 

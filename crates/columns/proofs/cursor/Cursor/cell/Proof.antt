@@ -4,11 +4,12 @@ use mathlib.Core.Path.{_≡_, refl, ap, _∙_, subst}
 use Prim.Native.Nat.{_≤_, _+_}
 use lib.ListN.{length, take}
 use lib.Seq.{slice}
-use Rattle.columns.specs.Column.{Col, Range, calendarDay, numeric, width, groupWidth}
-use Rattle.columns.specs.Table.{rangeAt, ruleAt, groupAt, colOf, slotsOf}
-use Rattle.columns.proofs.laws.Table.{good-number, good-text, good-of-group, col-integer, col-decimal, col-text, col-letter, col-group, col-blank}
+use lib.Dec.{T}
+use Rattle.columns.specs.Column.{Col, Range, calendarDay, numeric, width, goodCol}
+use Rattle.columns.specs.Table.{rangeAt, colOf, slotsOf}
+use Rattle.columns.proofs.laws.Table.{good-number, col-integer, col-decimal, col-other}
 use Rattle.columns.proofs.laws.Form.{good-int, good-dec, form-integer, form-decimal}
-use Rattle.columns.proofs.laws.Cursor.{read-number-is, read-text-is, read-letter-is, read-group-is, read-gap-is, found-as}
+use Rattle.columns.proofs.laws.Cursor.{read-number-is, found-as}
 use Rattle.columns.proofs.laws.Ranges.{range-day}
 use Rattle.columns.specs.declared.number.Form.the-variants as N
 use Rattle.columns.proofs.cursor.Cursor.cell.Statement.{statement}
@@ -93,80 +94,19 @@ returns-4 c =
     (read-number-is (colOf (a .c) (a .ranges .now) (a .letters .now)) seen (a .self .at) b _ _ (a .c .required) (rangeAt (a .ranges .now) (a .c .last)) _ e (c .before .before .before .decimal .ensures .0 ∙ form-decimal (a .c .width) (a .c .place) b) (c .judged2 .ensures seen b))
     (record { answer = refl; next = c .before .before .before .decimal .ensures .1 })
 
-text-requires : tie.Need-text-requires
-text-requires c κs =
-    let a = c .before .before .before .before .before .before .args in
-    let p = c .before .before .before .before .before .before .pre .1 .1 in
-    let e = col-text (a .c) (a .ranges .now) (a .letters .now) (c .if5 .taken) in
-    let q = subst (λ (x : Col). a .self .at + width x ≤ length (a .line .now)) e (p .fits) in
-    (q, (good-text (a .c .width) (ruleAt (a .c .last)) (colOf (a .c) (a .ranges .now) (a .letters .now)) e (p .fine), omega (arith, q, p .low)))
+other-requires : tie.Need-other-requires
+other-requires c κs =
+    let a = c .before .before .before .before .before .args in
+    let p = c .before .before .before .before .before .pre in
+    let k : 2 ≤ a .c .kind = omega (arith, c .if3 .left, c .before .if1 .left) in
+    let e = col-other (a .c) (a .ranges .now) (a .letters .now) k in
+    (k, (p .0, (p .1 .0, record { fine = subst (λ (x : Col). T (goodCol x)) e (p .1 .1 .fine); fits = subst (λ (x : Col). a .self .at + width x ≤ length (a .line .now)) e (p .1 .1 .fits); low = p .1 .1 .low; same = refl; seen = omega arith })))
 
 returns-5 : tie.Need-returns-5
 returns-5 c =
-    let a = c .before .before .before .before .before .before .before .args in
-    let seen = take (a .k) (slotsOf (a .flags .now) (a .values .now)) in
-    let e = col-text (a .c) (a .ranges .now) (a .letters .now) (c .before .if5 .taken) in
-    let w : a .c .width ≡ width (colOf (a .c) (a .ranges .now) (a .letters .now)) = rw e in
-    found-as _ (colOf (a .c) (a .ranges .now) (a .letters .now)) seen _ (a .self .at) (a .c .width) (a .line .now) w (read-text-is (colOf (a .c) (a .ranges .now) (a .letters .now)) seen (a .self .at) (slice (a .self .at) (a .self .at + a .c .width) (a .line .now)) (a .c .width) (ruleAt (a .c .last)) e) (c .text .ensures)
-
-letter-requires : tie.Need-letter-requires
-letter-requires c κs =
-    let a = c .before .before .before .before .before .before .before .args in
-    let p = c .before .before .before .before .before .before .before .pre .1 .1 in
-    let e = col-letter (a .c) (a .ranges .now) (a .letters .now) (c .if6 .taken) in
-    let q = subst (λ (x : Col). a .self .at + width x ≤ length (a .line .now)) e (p .fits) in
-    (q, (omega arith, omega (arith, q, p .low)))
-
-returns-6 : tie.Need-returns-6
-returns-6 c =
-    let a = c .before .before .before .before .before .before .before .before .args in
-    let seen = take (a .k) (slotsOf (a .flags .now) (a .values .now)) in
-    let e = col-letter (a .c) (a .ranges .now) (a .letters .now) (c .before .if6 .taken) in
-    let w : 1 ≡ width (colOf (a .c) (a .ranges .now) (a .letters .now)) = rw e in
-    found-as _ (colOf (a .c) (a .ranges .now) (a .letters .now)) seen _ (a .self .at) 1 (a .line .now) w (read-letter-is (colOf (a .c) (a .ranges .now) (a .letters .now)) seen (a .self .at) (slice (a .self .at) (a .self .at + 1) (a .line .now)) (slice (a .c .place) (a .c .place + a .c .last) (a .letters .now)) e) (c .letter .ensures)
-
-group-requires : tie.Need-group-requires
-group-requires c κs =
-    let a = c .before .before .before .before .before .before .before .before .before .args in
-    let p = c .before .before .before .before .before .before .before .before .before .pre .1 .1 in
-    let e = col-group (a .c) (a .ranges .now) (a .letters .now) (c .before .if7 .taken) in
-    let q = subst (λ (x : Col). a .self .at + width x ≤ length (a .line .now)) e (p .fits) in
-    rw (c .group-at .ensures) (q, good-of-group (groupAt (a .c .last)) (colOf (a .c) (a .ranges .now) (a .letters .now)) e (p .fine))
-
-grouped-requires : tie.Need-grouped-requires
-grouped-requires c κs =
-    let p = c .before .before .before .before .before .before .before .before .before .before .before .pre .1 .1 in
-    omega (arith, p .fits, p .low)
-
-returns-7 : tie.Need-returns-7
-returns-7 c =
-    let a = c .before .before .before .before .before .before .before .before .before .before .before .before .args in
-    let seen = take (a .k) (slotsOf (a .flags .now) (a .values .now)) in
-    let e = col-group (a .c) (a .ranges .now) (a .letters .now) (c .before .before .before .before .if7 .taken) in
-    let f = c .before .before .before .group-at .ensures in
-    let w : groupWidth (groupAt (a .c .last)) ≡ width (colOf (a .c) (a .ranges .now) (a .letters .now)) = rw e in
-    let b = slice (a .self .at) (a .self .at + groupWidth (groupAt (a .c .last))) (a .line .now) in
-    let n = rw f at (c .before .before .group .ensures) in
-    found-as _ (colOf (a .c) (a .ranges .now) (a .letters .now)) seen _ (a .self .at) (groupWidth (groupAt (a .c .last))) (a .line .now) w
-    (read-group-is (colOf (a .c) (a .ranges .now) (a .letters .now)) seen (a .self .at) b _ (groupAt (a .c .last)) _ e (n .0) (rw f at (c .grouped .ensures seen b)))
-    (record { answer = refl; next = n .1 })
-
-blanks-requires : tie.Need-blanks-requires
-blanks-requires c κs =
-    let a = c .before .before .before .before .before .before .before .before .args in
-    let p = c .before .before .before .before .before .before .before .before .pre .1 .1 in
-    let k : 5 ≤ a .c .kind = omega (arith, c .if7 .left, c .before .if6 .left, c .before .before .if5 .left, c .before .before .before .if3 .left, c .before .before .before .before .if1 .left) in
-    let e = col-blank (a .c) (a .ranges .now) (a .letters .now) k in
-    (subst (λ (x : Col). a .self .at + width x ≤ length (a .line .now)) e (p .fits), p .low)
-
-returns-8 : tie.Need-returns-8
-returns-8 c =
-    let a = c .before .before .before .before .before .before .before .before .before .args in
-    let seen = take (a .k) (slotsOf (a .flags .now) (a .values .now)) in
-    let k : 5 ≤ a .c .kind = omega (arith, c .before .if7 .left, c .before .before .if6 .left, c .before .before .before .if5 .left, c .before .before .before .before .if3 .left, c .before .before .before .before .before .if1 .left) in
-    let e = col-blank (a .c) (a .ranges .now) (a .letters .now) k in
-    let w : a .c .width ≡ width (colOf (a .c) (a .ranges .now) (a .letters .now)) = rw e in
-    found-as _ (colOf (a .c) (a .ranges .now) (a .letters .now)) seen _ (a .self .at) (a .c .width) (a .line .now) w (read-gap-is (colOf (a .c) (a .ranges .now) (a .letters .now)) seen (a .self .at) (slice (a .self .at) (a .self .at + a .c .width) (a .line .now)) (a .c .width) e) (c .blanks .ensures)
+    let a = c .before .before .before .before .before .before .args in
+    let k : 2 ≤ a .c .kind = omega (arith, c .before .if3 .left, c .before .before .if1 .left) in
+    rw (col-other (a .c) (a .ranges .now) (a .letters .now) k) (c .other .ensures (take (a .k) (slotsOf (a .flags .now) (a .values .now))))
 
 pub cell-spec : {M : Type 1} → statement M
 cell-spec =
@@ -182,14 +122,5 @@ cell-spec =
     returns-3
     judged-requires-2
     returns-4
-    text-requires
-    returns-5
-    (λ c. search needs)
-    letter-requires
-    returns-6
-    (λ c κs. search needs)
-    group-requires
-    grouped-requires
-    returns-7
-    blanks-requires
-    returns-8)
+    other-requires
+    returns-5)
