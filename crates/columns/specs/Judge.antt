@@ -21,7 +21,7 @@ simpleCol (letter s) = false
 simpleCol (group g) = false
 simpleCol (blank w) = false
 
--- a day
+-- a range that goes by the numbers before it, and a column with it: a day
 abbrev pub looksBack : Range → Bool
 looksBack asHeld = false
 looksBack notNegative = false
