@@ -12,7 +12,8 @@
  *   bits  0 to  7   the answer, ROTMIBEL_READ or one of the refusals below
  *   bits  8 to 23   the column of a refusal, from 1; 0 where the refusal names none
  *   bits 24 to 63   the number of bytes written to the lent buffer, or the place of a look-up; 0 after a refusal
- * Calls on a block put other numbers into the second and third parts; each says which, and has macros of its own.
+ * rotmibel_quick_look_up puts another number into the second part, calls on a block into the second and third; each says which, and has
+ * macros of its own.
  * After a refusal (answers 1 to 19) nothing lent has changed. Otherwise only the bytes written have.
  */
 #ifndef ROTMIBEL_H
@@ -29,6 +30,9 @@ extern "C" {
 #define ROTMIBEL_ANSWER(r) ((unsigned)((r) & 0xff))
 #define ROTMIBEL_COLUMN(r) ((unsigned)(((r) >> 8) & 0xffff))
 #define ROTMIBEL_LENGTH(r) ((size_t)((r) >> 24))
+
+/* rotmibel_quick_look_up: how many entries it examined. */
+#define ROTMIBEL_EXAMINED(r) ((unsigned)(((r) >> 8) & 0xffff))
 
 /* The parts of what a call on a block returns. */
 #define ROTMIBEL_PHASE_COUNT(r) ((size_t)(((r) >> 8) & 0xffff))    /* rotmibel_read_block, READ: the phase lines */
@@ -265,7 +269,7 @@ uint64_t rotmibel_write_arrival_record(const uint8_t *record, size_t record_len,
  *
  * A room saved before there were links has ROTMIBEL_OLD_ROOM bytes and no third part. Filled with zeros to ROTMIBEL_ROOM bytes it is the
  * same catalogue, with no links; as it is, each call answers SHORT. A room that holds an E line of a day that does not exist, as earlier
- * versions took it, is out of order: each call answers DISORDER.
+ * versions took it, is out of order: each call but rotmibel_quick_look_up, which does not look, answers DISORDER.
  */
 
 /*
@@ -288,6 +292,20 @@ uint64_t rotmibel_take(uint8_t *room, size_t room_len, const uint8_t *line, size
  */
 uint64_t rotmibel_look_up(const uint8_t *room, size_t room_len, const uint8_t *source, size_t source_len,
                           const uint8_t *identifier, size_t identifier_len);
+
+/*
+ * Look a pair up by halving, with no check of the room: for a room that is known to be in order, as rotmibel_take leaves it. Of the room
+ * only the count of the held lines and the entries examined are read, at most 10 of 512: while the stretch of entries is not empty,
+ * the entry at half the sum, rounded down, of its first place and the place after its last is examined; if it has the pair the search is
+ * over, else it goes on in the half that can hold the pair.
+ *
+ * Answers, looked for in this order: SHORT; DISORDER only for a count of held lines above ROTMIBEL_MOST_PAIRS; BAD_LENGTH as above; HELD with
+ * its place, or NOT_HELD; with HELD and NOT_HELD also ROTMIBEL_EXAMINED, never more than the count has binary digits. In a room in
+ * order answer and place are those of rotmibel_look_up. In any other room the answer is the rule's, and HELD still shows an entry
+ * with that pair at that place; NOT_HELD then says only that the search did not meet one. Nothing is changed.
+ */
+uint64_t rotmibel_quick_look_up(const uint8_t *room, size_t room_len, const uint8_t *source, size_t source_len,
+                                const uint8_t *identifier, size_t identifier_len);
 
 /* Whether a room is a catalogue in order: READ (0), or SHORT or DISORDER. Nothing is changed. */
 uint64_t rotmibel_in_order(const uint8_t *room, size_t room_len);

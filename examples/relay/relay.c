@@ -3,6 +3,7 @@
  *
  *   relay take ROOM          takes the lines of standard input into the catalogue in the file ROOM, which is made where there is none
  *   relay find ROOM SS ID    looks up source SS and identifier ID, and prints what is held
+ *   relay ask ROOM           looks up a source and an identifier, one after the other, from each line of standard input, by halving
  *   relay links ROOM         prints the links
  *   relay block FILE         reads a phase block and prints its records
  *   relay arrivals FILE      the same of an arrival block
@@ -115,6 +116,26 @@ static int find(const char *name, const char *source, const char *identifier) {
     }
 }
 
+/* The room was checked when it was loaded, so each enquiry looks only at the entries that it examines. */
+static int ask(const char *name) {
+    if (load(name)) return 1;
+    uint8_t line[1024];
+    size_t n;
+    while (next_line(line, sizeof line, &n)) {
+        size_t source = n < 2 ? n : 2;
+        uint64_t r = rotmibel_quick_look_up(room, sizeof room, line, source, line + source, n - source);
+        switch (ROTMIBEL_ANSWER(r)) {
+        case ROTMIBEL_HELD:
+            printf("held, %u examined: %.*s\n", ROTMIBEL_EXAMINED(r), ROTMIBEL_EVENT_LINE,
+                   (const char *)room + 2 + ROTMIBEL_EVENT_LINE * ROTMIBEL_LENGTH(r));
+            break;
+        case ROTMIBEL_NOT_HELD: printf("not held, %u examined\n", ROTMIBEL_EXAMINED(r)); break;
+        default: printf("refused: %u\n", ROTMIBEL_ANSWER(r));
+        }
+    }
+    return ferror(stdin) ? fail("standard input") : 0;
+}
+
 /* Prints a link by its parts, and says whether it was deleted. */
 static int show_link(const uint8_t *entry) {
     uint8_t record[ROTMIBEL_RECORD];
@@ -206,9 +227,10 @@ static int read_block(const struct format *of, const char *name) {
 int main(int argc, char **argv) {
     if (argc == 3 && strcmp(argv[1], "take") == 0) return take(argv[2]);
     if (argc == 5 && strcmp(argv[1], "find") == 0) return find(argv[2], argv[3], argv[4]);
+    if (argc == 3 && strcmp(argv[1], "ask") == 0) return ask(argv[2]);
     if (argc == 3 && strcmp(argv[1], "links") == 0) return links(argv[2]);
     if (argc == 3 && strcmp(argv[1], "block") == 0) return read_block(&phases, argv[2]);
     if (argc == 3 && strcmp(argv[1], "arrivals") == 0) return read_block(&arrivals, argv[2]);
-    fprintf(stderr, "usage: relay take ROOM | relay find ROOM SOURCE IDENTIFIER | relay links ROOM | relay block FILE | relay arrivals FILE\n");
+    fprintf(stderr, "usage: relay take ROOM | relay find ROOM SOURCE IDENTIFIER | relay ask ROOM | relay links ROOM | relay block FILE | relay arrivals FILE\n");
     return 2;
 }

@@ -23,3 +23,7 @@ inBase b k = ((k .source * b + k .identifier) * b + k .high) * b + k .low
 
 unfoldable pub keyNumber : Key → ℕ
 keyNumber k = inBase 18446744073709551616 k
+
+-- a pair's key has no type
+abbrev pub pairKey : ℕ → ℕ → Key
+pairKey source identifier = record { source = source; identifier = identifier; high = 0; low = 0 }

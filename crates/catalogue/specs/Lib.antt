@@ -10,6 +10,8 @@ pub mod Untouched
 pub mod Ordered
 pub mod Saved
 pub mod LookUp
+pub mod Halving
+pub mod QuickLookUp
 pub mod FromSet
 pub mod Lists
 pub mod Last

@@ -6,6 +6,7 @@ pub mod link;
 pub mod look_up;
 pub mod moves;
 pub mod order;
+pub mod quick_look_up;
 pub mod room;
 pub mod section;
 pub mod splice;
@@ -58,4 +59,11 @@ pub struct Call {
 pub struct Looked {
     pub number: u8,
     pub place: usize,
+}
+
+// What a look-up by halving answers: a number, the place of a held line, and how many entries it examined.
+pub struct Searched {
+    pub number: u8,
+    pub place: usize,
+    pub examined: usize,
 }

@@ -7,6 +7,7 @@ use lib.Dec.{eqb}
 use Rattle.columns.specs.Answer.{pick, Answer}
 use Rattle.columns.specs.Table.{laid}
 use Rattle.catalogue.specs.declared.Looked.{Looked}
+use Rattle.catalogue.specs.declared.Searched.{Searched}
 use Rattle.formats.specs.Record.{replyOf}
 use Rattle.formats.specs.BlockWriting.{fromPlace, laidFrom}
 use Rattle.formats.specs.BlockWalk.{firstLine, nextLine}
@@ -36,6 +37,10 @@ pub record Answered (a : Answer (List ℕ)) (r : ℕ) (from to : List ℕ) : Typ
 -- a look-up's answer, with the place of the held line where a length stands
 abbrev pub lookedNumber : Looked → ℕ
 lookedNumber x = parts (x .number) 0 (x .place)
+
+-- the same of a look-up by halving, with how many entries it examined where a column stands
+abbrev pub searchedNumber : Searched → ℕ
+searchedNumber x = parts (x .number) (x .examined) (x .place)
 
 -- ---- blocks
 

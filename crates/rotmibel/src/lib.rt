@@ -2,6 +2,7 @@
 use catalogue::look_up::look_up;
 use catalogue::order::check_order;
 use catalogue::order::take_line;
+use catalogue::quick_look_up::quick_look_up;
 use formats::Reply;
 use formats::block::Block;
 use formats::block::read_block;
@@ -26,7 +27,8 @@ ghost use Rattle.formats.specs.Block.{readBlock};
 ghost use Rattle.formats.specs.BlockWriting.{headerCall, recordCall};
 ghost use Rattle.catalogue.specs.Room.{callOf, roomAfter, orderOf};
 ghost use Rattle.catalogue.specs.LookUp.{lookUp};
-ghost use Rattle.rotmibel.specs.Answers.{parts, numberIn, small, lookedNumber, blockAnswer, lineNumber, lineIn, metLine, placeIn, lowColumn, Answered, AnsweredFrom};
+ghost use Rattle.catalogue.specs.QuickLookUp.{quickLookUp};
+ghost use Rattle.rotmibel.specs.Answers.{parts, numberIn, small, lookedNumber, searchedNumber, blockAnswer, lineNumber, lineIn, metLine, placeIn, lowColumn, Answered, AnsweredFrom};
 
 // Answer, column and length in one number.
 fn parts_of(answer: u8, column: usize, len: usize) -> u64
@@ -90,6 +92,15 @@ pub extern "C" fn rotmibel_look_up(room: &[u8], source: &[u8], identifier: &[u8]
 {
     let looked = look_up(room, source, identifier);
     parts_of(looked.number, 0, looked.place)
+}
+
+// A pair looked up in a room by halving.
+#[no_mangle]
+pub extern "C" fn rotmibel_quick_look_up(room: &[u8], source: &[u8], identifier: &[u8]) -> u64
+    ensures { λ r. ⌜ r ≡ searchedNumber (quickLookUp (now (room .entry)) (now (source .entry)) (now (identifier .entry))) ⌝ }
+{
+    let searched = quick_look_up(room, source, identifier);
+    parts_of(searched.number, searched.examined, searched.place)
 }
 
 // Whether a room is in order.

@@ -11,4 +11,5 @@ pub mod Weight
 pub mod Order
 pub mod Saved
 pub mod LookUp
+pub mod QuickLookUp
 pub mod Answered

@@ -7,4 +7,5 @@ pub mod Rows
 pub mod Laid
 pub mod RowMoves
 pub mod Seek
+pub mod Halving
 pub mod Parts

@@ -47,6 +47,10 @@ contents-entries r =
     ∙ ap (λ (ps : List Part). fromParts (part 80 512 hs ∷ ps)) (said-next (part 11 512 []) (part 256 64 [] ∷ []) r (endOf (heldIn r)) (two r (endOf (heldIn r))) refl)
     ∙ ap (λ (ps : List Part). fromParts (part 80 512 hs ∷ part 11 512 ds ∷ ps)) (said-next (part 256 64 []) [] r (endOf (deletionsIn r)) (two r (endOf (deletionsIn r))) refl)
 
+-- the held lines, whatever the bytes are
+pub held-rows : (r : List ℕ) → entriesOf (heldIn r) r ≡ contents r .held
+held-rows r = sym (ap (λ (c : Catalogue). c .held) (contents-entries r))
+
 -- no type is asked for
 pub untyped : (m n : ℕ) → false ≡ true → m ≤ n
 untyped m n e = let z : _≡_ {A = ℕ} 0 1 = cc in absurd (omega arith)
@@ -63,7 +67,7 @@ links-lie r h = record { fits = h; source = omega arith; identifier = omega arit
 
 module _ (r : List ℕ) (o : Ordered r) where
   pub held-entries : entriesOf (heldIn r) r ≡ contents r .held
-  held-entries = sym (ap (λ (c : Catalogue). c .held) (contents-entries r))
+  held-entries = held-rows r
 
   pub deletion-entries : entriesOf (deletionsIn r) r ≡ contents r .deletions
   deletion-entries = sym (ap (λ (c : Catalogue). c .deletions) (contents-entries r))

@@ -75,7 +75,7 @@ zero-bytes : (n : ℕ) → Bytes (replicate n 0)
 zero-bytes zero = tt
 zero-bytes (suc n) = (omega arith, zero-bytes n)
 
-bytes-append : (xs ys : List ℕ) → Bytes xs → Bytes ys → Bytes (xs ++ ys)
+pub bytes-append : (xs ys : List ℕ) → Bytes xs → Bytes ys → Bytes (xs ++ ys)
 bytes-append [] ys h k = k
 bytes-append (x ∷ xs) ys h k = (h .0, bytes-append xs ys (h .1) k)
 
@@ -108,6 +108,10 @@ module _ (p q t u : List ℕ) (n : length p ≡ length q) (f : length t ≤ 16) 
       let x : p ≡ q = sym (take-at p (filled t) (length p) refl) ∙ ap (take (length p)) w ∙ take-at q (filled u) (length p) (sym n) in
       let y : filled t ≡ filled u = sym (drop-at p (filled t) (length p) refl) ∙ ap (drop (length p)) w ∙ drop-at q (filled u) (length p) (sym n) in
       (x, filled-same t u T U y)
+
+-- a pair's key, which has no type, determines it
+pub pair-of-key : (p q : List ℕ) → length p ≡ length q → Bytes p → Bytes q → keyOf p [] ≡ keyOf q [] → p ≡ q
+pair-of-key p q n P Q e = key-parts p q [] [] n (omega arith) (omega arith) P Q clear.none clear.none e .0
 
 -- ---- a shorter type stands before one that it begins
 
