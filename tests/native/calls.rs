@@ -6,6 +6,7 @@ mod raw {
         pub fn rotmibel_write_line(from: *const u8, n: usize, out: *mut u8, m: usize) -> u64;
         pub fn rotmibel_take(room: *mut u8, n: usize, line: *const u8, m: usize) -> u64;
         pub fn rotmibel_look_up(room: *const u8, n: usize, s: *const u8, m: usize, i: *const u8, k: usize) -> u64;
+        pub fn rotmibel_quick_look_up(room: *const u8, n: usize, s: *const u8, m: usize, i: *const u8, k: usize) -> u64;
         pub fn rotmibel_in_order(room: *const u8, n: usize) -> u64;
         pub fn rotmibel_read_phase(line: *const u8, n: usize, out: *mut u8, m: usize) -> u64;
         pub fn rotmibel_write_phase(from: *const u8, n: usize, out: *mut u8, m: usize) -> u64;
@@ -51,6 +52,24 @@ pub fn take_into(room: &mut [u8], line: &[u8]) -> u64 {
 pub fn look_up(room: &[u8], source: &[u8], identifier: &[u8]) -> u64 {
     let (s, i) = (source, identifier);
     unsafe { raw::rotmibel_look_up(room.as_ptr(), room.len(), s.as_ptr(), s.len(), i.as_ptr(), i.len()) }
+}
+pub fn quick_look_up(room: &[u8], source: &[u8], identifier: &[u8]) -> u64 {
+    let (s, i) = (source, identifier);
+    unsafe { raw::rotmibel_quick_look_up(room.as_ptr(), room.len(), s.as_ptr(), s.len(), i.as_ptr(), i.len()) }
+}
+/// The same on copies of all three, each between guards; what they hold afterwards.
+pub fn quick_look_up_lent(room: &[u8], source: &[u8], identifier: &[u8]) -> (u64, [Vec<u8>; 3]) {
+    let (mut source_after, mut identifier_after) = (Vec::new(), Vec::new());
+    let (returned, room_after) = lent(room, |p, n| {
+        let (returned, after) = lent(source, |s, m| {
+            let (returned, after) = lent(identifier, |i, k| unsafe { raw::rotmibel_quick_look_up(p, n, s, m, i, k) });
+            identifier_after = after;
+            returned
+        });
+        source_after = after;
+        returned
+    });
+    (returned, [room_after, source_after, identifier_after])
 }
 pub fn in_order(room: &[u8]) -> u64 {
     unsafe { raw::rotmibel_in_order(room.as_ptr(), room.len()) }
@@ -119,8 +138,21 @@ impl FileCalls {
     }
 }
 
-/// Reading and taking a line with a null pointer and length 0 for everything that they are lent.
-pub fn nulls() -> [u64; 2] {
+/// Reading and taking a line and both look-ups, with a null pointer and length 0 for everything that they are lent.
+pub fn nulls() -> [u64; 4] {
     let (p, m) = (std::ptr::null(), std::ptr::null_mut());
-    unsafe { [raw::rotmibel_read_line(p, 0, m, 0), raw::rotmibel_take(m, 0, p, 0)] }
+    unsafe {
+        [
+            raw::rotmibel_read_line(p, 0, m, 0),
+            raw::rotmibel_take(m, 0, p, 0),
+            raw::rotmibel_look_up(p, 0, p, 0, p, 0),
+            raw::rotmibel_quick_look_up(p, 0, p, 0, p, 0),
+        ]
+    }
+}
+
+/// The quick look-up in a room, with a null pointer and length 0 for source and identifier.
+pub fn quick_null_pair(room: &[u8]) -> u64 {
+    let p = std::ptr::null();
+    unsafe { raw::rotmibel_quick_look_up(room.as_ptr(), room.len(), p, 0, p, 0) }
 }

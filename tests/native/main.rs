@@ -13,12 +13,15 @@ mod examples;
 mod formats;
 mod lines;
 mod link;
+mod look_ups;
 mod make;
 mod number;
+mod quick;
 mod room;
 mod rooms;
 mod row;
 mod rows;
+mod unordered;
 
 use blocks::*;
 use compare::{parts, Group};
@@ -26,9 +29,11 @@ use days::*;
 use edges::*;
 use examples::*;
 use lines::*;
+use look_ups::*;
 use make::Rng;
 use rooms::*;
 use rows::*;
+use unordered::*;
 
 fn null_pointers() -> Group {
     let mut g = Group::new("null pointers with length 0");
@@ -36,6 +41,7 @@ fn null_pointers() -> Group {
     for got in calls::nulls() {
         g.same(got, short, &[]);
     }
+    g.same(calls::quick_null_pair(&[0; room::ROOM]), parts(number::LENGTH, 0, 0), &[]);
     let wanted = [short, none, parts(block::OUT_OF_PLACE, 0, 1), unplaced, short, none];
     for file in [&PHASES, &ARRIVALS] {
         for (got, wanted) in file.calls.nulls().into_iter().zip(wanted) {
@@ -85,6 +91,12 @@ fn main() {
         broken_rooms(&mut r, 900 * times),
         old_rooms(&mut r, 1_000 * times),
         two_desks(&mut r, 1_500 * times),
+        quick_by_hand(&mut r),
+        quick_in_order(&mut r, times),
+        quick_refused(&mut r),
+        quick_in_damaged_rooms(&mut r, 60_000 * times),
+        quick_in_random_rooms(&mut r, 100_000 * times),
+        quick_reads(&mut r, 32_000 * times),
     ]);
     for g in &groups {
         println!("{}: {} calls, {} differ", g.name, g.calls, g.differ);

@@ -28,7 +28,7 @@ pub const REMOVED: u8 = 24;
 const NOTED: u8 = 25;
 const NOTHING_HELD: u8 = 26;
 pub const IS_HELD: u8 = 27;
-const NOT_HELD: u8 = 28;
+pub const NOT_HELD: u8 = 28;
 
 /// Source, then identifier.
 pub type Pair = [u8; 10];

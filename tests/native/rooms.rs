@@ -67,16 +67,16 @@ pub fn many_links(r: &mut Rng, times: usize) -> Group {
 }
 
 /// Where the sections of a room begin, at their counts, and how many entries they have, if the room is in order.
-struct Places {
-    held: usize,
-    deletions: usize,
-    deleted: usize,
-    links_at: usize,
-    links: usize,
-    end: usize,
+pub struct Places {
+    pub held: usize,
+    pub deletions: usize,
+    pub deleted: usize,
+    pub links_at: usize,
+    pub links: usize,
+    pub end: usize,
 }
 
-fn places(room: &[u8]) -> Places {
+pub fn places(room: &[u8]) -> Places {
     let count = |at: usize| u16::from_be_bytes([room[at], room[at + 1]]) as usize;
     let held = count(0);
     let deletions = room::COUNT + room::HELD * held;

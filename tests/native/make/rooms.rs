@@ -1,6 +1,6 @@
 //! Rooms, in order and at the edges of it.
 use super::*;
-use crate::room::{self, Catalogue};
+use crate::room::{self, Catalogue, Pair};
 
 /// A room that took `lines` lines about `pairs` pairs.
 pub fn a_room(r: &mut Rng, lines: usize, pairs: usize) -> Vec<u8> {
@@ -69,6 +69,56 @@ pub fn full(pairs: usize) -> Catalogue {
         seal(&mut line);
         c.deleted.insert(room::pair_of(&line), b'1');
         c.held.insert(room::pair_of(&line), line);
+    }
+    c
+}
+
+/// Bytes that a name may have, the lowest, the highest and those beside the brackets among them.
+pub const NAME_BYTES: &[u8] = b" !09AZ\\^az}~";
+
+/// Gives a line or an entry this pair; the inverse of `room::pair_of`.
+pub fn put_pair(line: &mut [u8], p: &Pair) {
+    line[10..12].copy_from_slice(&p[..2]);
+    line[2..10].copy_from_slice(&p[2..]);
+}
+
+/// A pair that differs from this one in at most two bytes, which are then among `bytes`.
+pub fn near(r: &mut Rng, p: &Pair, bytes: &[u8]) -> Pair {
+    let mut near = *p;
+    for _ in 0..1 + r.below(2) {
+        near[r.below(p.len())] = r.pick(bytes);
+    }
+    near
+}
+
+/// An acceptable E line of version 9.
+pub fn event_of(r: &mut Rng, p: &Pair) -> Vec<u8> {
+    let mut line = event(r, 1);
+    put_pair(&mut line, p);
+    line[12] = b'9';
+    seal(&mut line);
+    line
+}
+
+/// Holds one pair more, near one that is held; half of them are deleted too, below that.
+pub fn hold_another(r: &mut Rng, c: &mut Catalogue) {
+    let held = c.held.len();
+    while c.held.len() == held {
+        let from = c.held.keys().nth(r.below(held + 1)).copied();
+        let p = near(r, &from.unwrap_or(*b"CI00000000"), NAME_BYTES);
+        c.held.insert(p, event_of(r, &p));
+        if r.one_in(2) {
+            c.deleted.insert(p, b'1');
+        }
+    }
+}
+
+/// Three links, no pair named.
+pub fn three_links() -> Catalogue {
+    let mut c = Catalogue::default();
+    for n in 0..3 {
+        let line = numbered_link(n, b"01");
+        c.links.insert(room::triple_of(&line), line);
     }
     c
 }
