@@ -58,7 +58,7 @@ SameAt at to (i ∷ is) = (at i ≡ to i) × SameAt at to is
 abbrev pub binaryDigits : ℕ → ℕ
 binaryDigits n = 64 - leadingZeros 64 n
 
--- what the code's search comes to: the place, or 512 where there is none, and how many more entries may be examined than after it
+-- what the code's search comes to: the place, or 512 where there is none; before it `from` entries could be examined, after it `left`
 pub record Stopped (x : Searched) (place from left : ℕ) : Type 0 where
   pub place-is : place ≡ pick (eqb (x .number) isHeld) (x .place) 512
   pub left-is : left + x .examined ≡ from

@@ -31,7 +31,7 @@ fn refused(number: u8) -> Searched
 }
 
 // The place of a pair's words among the held lines from `first` up to `end`, or 512; `left` says how many entries may still be examined.
-// The room is behind a reference, so that a call on half the stretch hands nothing on but numbers.
+// The room is behind a reference: a call on half the stretch then hands on numbers alone, and the compiler makes a loop of the calls.
 fn search(
     room: &&[u8],
     source: u64,
