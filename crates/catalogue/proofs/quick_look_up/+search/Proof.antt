@@ -44,25 +44,26 @@ pub +search-spec : {M : Type 1} → statement M
     (λ c. omega (arith, c .before .pre .1 .low, c .if1 .left))
     (λ c. one-left (c .before .before .pre .1) (c .before .if1 .left))
     (λ c κs. omega (arith, c .before .before .before .before .pre .1 .inside .fits))
-    (λ c κs. middle-held (c .before .before .before .before .before .pre .1) (c .before .before .before .before .if1 .left) (c .held-in .ensures))
+    (λ c κs. let e = c .before .before .before .before in middle-held (e .before .pre .1) (e .if1 .left) (c .held-in .ensures))
     (λ c κs. search needs)
     (λ c.
-    let d = c .before .before .before .before .before .before .before .before in
-    let k = keyNumber (pairKey (d .args .source) (d .args .identifier)) in
-    search-met (d .pre .1) (c .before .before .before .before .before .before .before .if1 .left) (c .before .before .before .held-in .ensures) (c .before .before .key-of .ensures) k (c .before .equal .ensures) (c .if2 .taken))
+    let k = c .before .before in
+    let e = c .before .before .before .before .before .before .before in
+    let a = e .before .args in
+    search-met (e .before .pre .1) (e .if1 .left) (k .before .held-in .ensures) (k .key-of .ensures) (keyNumber (pairKey (a .source) (a .identifier))) (c .before .equal .ensures) (c .if2 .taken))
     (λ c κs. search needs)
-    (λ c. omega (arith, c .before .before .before .before .before .before .before .before .before .before .pre .1 .low, c .before .before .before .before .before .before .before .before .before .if1 .left))
-    (λ c κs. (omega (arith, c .before .before .before .before .before .before .before .before .before .before .if1 .left), half-after (c .before .before .before .before .before .before .before .before .before .before .before .pre .1) (c .before .before .before .before .before .before .before .before .before .before .if1 .left)))
+    (λ c. let e = c .before .before .before .before .before .before .before .before .before in omega (arith, e .before .pre .1 .low, e .if1 .left))
+    (λ c κs. let e = c .before .before .before .before .before .before .before .before .before .before in (omega (arith, e .if1 .left), half-after (e .before .pre .1) (e .if1 .left)))
     (λ c.
-    let d = c .before .before .before .before .before .before .before .before .before .before .before .before in
-    let k = keyNumber (pairKey (d .args .source) (d .args .identifier)) in
-    search-after (d .pre .1) (c .before .before .before .before .before .before .before .before .before .before .before .if1 .left) (c .before .before .before .before .before .before .before .held-in .ensures) (c .before .before .before .before .before .before .key-of .ensures)
-    k (c .before .before .before .before .before .equal .ensures) (c .before .before .before .before .if2 .left)
-    (c .before .before .before .before2 .ensures) (c .before .before .if3 .taken) (c .search .ensures))
-    (λ c κs. (omega (arith, c .before .before .before .before .before .before .before .before .before .before .if1 .left), half-before (c .before .before .before .before .before .before .before .before .before .before .before .pre .1) (c .before .before .before .before .before .before .before .before .before .before .if1 .left)))
+    let k = c .before .before .before .before .before .before in
+    let e = c .before .before .before .before .before .before .before .before .before .before .before in
+    let a = e .before .args in
+    search-after (e .before .pre .1) (e .if1 .left) (k .before .held-in .ensures) (k .key-of .ensures) (keyNumber (pairKey (a .source) (a .identifier)))
+    (c .before .before .before .before .before .equal .ensures) (c .before .before .before .before .if2 .left) (c .before .before .before .before2 .ensures) (c .before .before .if3 .taken) (c .search .ensures))
+    (λ c κs. let e = c .before .before .before .before .before .before .before .before .before .before in (omega (arith, e .if1 .left), half-before (e .before .pre .1) (e .if1 .left)))
     (λ c.
-    let d = c .before .before .before .before .before .before .before .before .before .before .before .before in
-    let k = keyNumber (pairKey (d .args .source) (d .args .identifier)) in
-    search-before (d .pre .1) (c .before .before .before .before .before .before .before .before .before .before .before .if1 .left) (c .before .before .before .before .before .before .before .held-in .ensures) (c .before .before .before .before .before .before .key-of .ensures)
-    k (c .before .before .before .before .before .equal .ensures) (c .before .before .before .before .if2 .left)
-    (c .before .before .before .before2 .ensures) (c .before .before .if3 .left) (c .search2 .ensures))
+    let k = c .before .before .before .before .before .before in
+    let e = c .before .before .before .before .before .before .before .before .before .before .before in
+    let a = e .before .args in
+    search-before (e .before .pre .1) (e .if1 .left) (k .before .held-in .ensures) (k .key-of .ensures) (keyNumber (pairKey (a .source) (a .identifier)))
+    (c .before .before .before .before .before .equal .ensures) (c .before .before .before .before .if2 .left) (c .before .before .before .before2 .ensures) (c .before .before .if3 .left) (c .search2 .ensures))
