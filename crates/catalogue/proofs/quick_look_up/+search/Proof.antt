@@ -42,9 +42,9 @@ pub +search-spec : {M : Type 1} → statement M
     search′.Post
     (λ c. search-empty (c .before .pre .1) (keyNumber (pairKey (c .before .args .source) (c .before .args .identifier))) (c .if1 .taken))
     (λ c. omega (arith, c .before .pre .1 .low, c .if1 .left))
-    (λ c. one-left (c .before .before .pre .1) (c .before .if1 .left))
+    (λ c. omega (arith, one-left (c .before .before .pre .1) (c .before .if1 .left)))
     (λ c κs. omega (arith, c .before .before .before .before .pre .1 .inside .fits))
-    (λ c κs. let e = c .before .before .before .before in middle-held (e .before .pre .1) (e .if1 .left) (c .held-in .ensures))
+    (λ c κs. let e = c .before .before .before .before in let m = middle-held (e .before .pre .1) (e .if1 .left) (c .held-in .ensures) in (m .0, omega (arith, m .1)))
     (λ c κs. search needs)
     (λ c.
     let k = c .before .before in
