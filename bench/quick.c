@@ -212,7 +212,7 @@ static void compare(void) {
 
 /* ---- timing, on full rooms */
 
-#define LOOK_UPS 65536 /* so many that no branch predictor knows the order; 512 of them take half the time */
+#define LOOK_UPS 65536 /* so many that no branch predictor knows the order; 512 of them take less than half the time */
 #define FEW 256        /* of the full look-up, which reads the whole room each time */
 #define ROUNDS 100
 
