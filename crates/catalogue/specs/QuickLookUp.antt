@@ -49,7 +49,7 @@ ReadsNothingElse =
     (room other source identifier : List ℕ) → roomSize ≤ length room → roomSize ≤ length other → heldCount room ≡ heldCount other
     → SameAt (heldKey room) (heldKey other) (placesExamined room source identifier) → quickLookUp room source identifier ≡ quickLookUp other source identifier
 
--- a 27 shows an entry with that pair, at that place
+-- a 27 shows an entry with that pair, at that place. Of bytes, as all that a call is lent: numbers above them could write one key twice
 abbrev pub AllBytes : List ℕ → Type 0
 AllBytes s = (i : ℕ) → getD s i 0 < 256
 

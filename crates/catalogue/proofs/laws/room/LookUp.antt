@@ -3,9 +3,10 @@ use Prim.Native.Nat.{ℕ, _+_, _*_}
 use mathlib.Core.Path.{_≡_, sym, _∙_, ap₂}
 use mathlib.Core.List.{List, [], _++_}
 use native.Mathlib.Omega.{arith}
-use borrow.Author.Tests.{eq-eqb}
+use borrow.Author.Tests.{eq-eqb, ne-eqb}
 use lib.ListN.{length}
 use lib.Seq.{take-all}
+use Rattle.columns.specs.Answer.{wrongLength}
 use Rattle.columns.specs.Word.{wordOf}
 use Rattle.catalogue.specs.declared.Looked.{Looked}
 use Rattle.catalogue.specs.declared.key.Key.{Key}
@@ -42,6 +43,17 @@ pub seen-is : (r : List ℕ) → Ordered r → (k : ℕ) (s : Seek) → Sought k
 unfolding lookedIn
 seen-is r o k (Found i) q = sym (rw (found-find key k (contents r .held) i q, ← q .0))
 seen-is r o k (Missing i) q = sym (rw (missing-find key k (contents r .held) (view-good r o .held-ascends) i q))
+
+-- ---- a length that is not right
+
+module _ (r so id : List ℕ) (o : Ordered r) where
+  pub look-source : (length so ≡ 2 → ⊥) → looked wrongLength 0 ≡ lookUp r so id
+  unfolding lookUp
+  look-source n = rw (checked-fine r (λ (n : ℕ). looked n 0) _ o, ne-eqb (length so) 2 n)
+
+  pub look-identifier : length so ≡ 2 → (length id ≡ 8 → ⊥) → looked wrongLength 0 ≡ lookUp r so id
+  unfolding lookUp
+  look-identifier e n = rw (checked-fine r (λ (n : ℕ). looked n 0) _ o, eq-eqb (length so) 2 e, ne-eqb (length id) 8 n)
 
 -- ---- both lengths are right: the answer is that of the pair
 pub look-pair : (r so id : List ℕ) → Ordered r → length so ≡ 2 → length id ≡ 8 → {k : ℕ} → k ≡ keyOf (so ++ id) [] → lookedIn (contents r) k ≡ lookUp r so id

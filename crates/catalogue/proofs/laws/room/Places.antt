@@ -47,9 +47,12 @@ contents-entries r =
     ∙ ap (λ (ps : List Part). fromParts (part 80 512 hs ∷ ps)) (said-next (part 11 512 []) (part 256 64 [] ∷ []) r (endOf (heldIn r)) (two r (endOf (heldIn r))) refl)
     ∙ ap (λ (ps : List Part). fromParts (part 80 512 hs ∷ part 11 512 ds ∷ ps)) (said-next (part 256 64 []) [] r (endOf (deletionsIn r)) (two r (endOf (deletionsIn r))) refl)
 
--- the held lines, whatever the bytes are
+-- the held lines and their count, whatever the bytes are
 pub held-rows : (r : List ℕ) → entriesOf (heldIn r) r ≡ contents r .held
 held-rows r = sym (ap (λ (c : Catalogue). c .held) (contents-entries r))
+
+pub rows-counted : (r : List ℕ) → two r 0 ≡ length (contents r .held)
+rows-counted r = sym (entries-length (heldIn r) r) ∙ ap length (held-rows r)
 
 -- no type is asked for
 pub untyped : (m n : ℕ) → false ≡ true → m ≤ n
@@ -76,7 +79,7 @@ module _ (r : List ℕ) (o : Ordered r) where
   link-entries = sym (ap (λ (c : Catalogue). c .links) (contents-entries r))
 
   pub held-count : two r 0 ≡ length (contents r .held)
-  held-count = sym (entries-length (heldIn r) r) ∙ ap length held-entries
+  held-count = rows-counted r
 
   pub deletion-count : two r (endOf (heldIn r)) ≡ length (contents r .deletions)
   deletion-count = sym (entries-length (deletionsIn r) r) ∙ ap length deletion-entries

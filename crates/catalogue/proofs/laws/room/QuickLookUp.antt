@@ -22,19 +22,19 @@ use Rattle.catalogue.specs.LookUp.{looked, lookUp, lookedIn}
 use Rattle.catalogue.specs.Halving.{middle, examine, searched, halving, keyAt, halveIn, SameAt, binaryDigits, Stopped}
 use Rattle.catalogue.specs.QuickLookUp.{heldCount, quickLookUp, FewExamined, heldKey, ReadsNothingElse, AllBytes, ShowsThePair, AsFullLookUp, Searchable}
 use Rattle.catalogue.proofs.laws.assoc.Tri.{le, gt, le?, eq, ne, eq?}
-use Rattle.catalogue.proofs.laws.section.Rows.{entries-length, entry-is, entry-length}
+use Rattle.catalogue.proofs.laws.section.Rows.{entry-is, entry-length}
 use Rattle.catalogue.proofs.laws.section.Types.{bytes-append, pair-of-key}
 use Rattle.catalogue.proofs.laws.section.Halving.{met, missed, came, same-places, halve-few, half-fits, stop-empty, stop-met, stop-after, stop-before, halve-find}
 use Rattle.catalogue.proofs.laws.step.Line.{pair-length}
 use Rattle.catalogue.proofs.laws.room.Encode.{room-size}
-use Rattle.catalogue.proofs.laws.room.View.{checked-fine, view-good}
-use Rattle.catalogue.proofs.laws.room.Places.{held-key, held-rows, held-lies, few}
-use Rattle.catalogue.proofs.laws.room.LookUp.{look-pair}
+use Rattle.catalogue.proofs.laws.room.View.{view-good}
+use Rattle.catalogue.proofs.laws.room.Places.{held-key, held-rows, rows-counted, held-lies, few}
+use Rattle.catalogue.proofs.laws.room.LookUp.{look-source, look-identifier, look-pair}
 
 -- the count of the held lines, in order or not
 pub held-number : (r : List ℕ) → length (contents r .held) ≡ heldCount r
 unfolding number
-held-number r = sym (ap length (held-rows r)) ∙ entries-length (heldIn r) r
+held-number r = sym (rows-counted r)
 
 pub held-total : (r : List ℕ) → heldIn r .count ≡ heldCount r
 unfolding number
@@ -245,14 +245,6 @@ module _ (r so id : List ℕ) (o : Ordered r) where
       → looked (quickLookUp r so id .number) (quickLookUp r so id .place) ≡ lookUp r so id
   as-full e p = subst (λ (x : Searched). looked (x .number) (x .place) ≡ lookUp r so id) e p
 
-  full-source : (length so ≡ 2 → ⊥) → looked wrongLength 0 ≡ lookUp r so id
-  unfolding lookUp
-  full-source n = rw (checked-fine r (λ (n : ℕ). looked n 0) _ o, ne-eqb (length so) 2 n)
-
-  full-identifier : length so ≡ 2 → (length id ≡ 8 → ⊥) → looked wrongLength 0 ≡ lookUp r so id
-  unfolding lookUp
-  full-identifier e n = rw (checked-fine r (λ (n : ℕ). looked n 0) _ o, eq-eqb (length so) 2 e, ne-eqb (length id) 8 n)
-
   full-pair : length so ≡ 2 → length id ≡ 8
       → looked (halveIn key (contents r .held) (keyOf (so ++ id) []) .number) (halveIn key (contents r .held) (keyOf (so ++ id) []) .place) ≡ lookUp r so id
   unfolding lookedIn
@@ -261,10 +253,10 @@ module _ (r so id : List ℕ) (o : Ordered r) where
 pub as-full-look-up : AsFullLookUp
 as-full-look-up r so id o =
     elim (eq? (length so) 2) [
-      | ne s ↦ as-full r so id o (quick-source r so id (o .long) (low r so id o) s) (full-source r so id o s)
+      | ne s ↦ as-full r so id o (quick-source r so id (o .long) (low r so id o) s) (look-source r so id o s)
       | eq s ↦
           elim (eq? (length id) 8) [
-            | ne i ↦ as-full r so id o (quick-identifier r so id (o .long) (low r so id o) s i) (full-identifier r so id o s i)
+            | ne i ↦ as-full r so id o (quick-identifier r so id (o .long) (low r so id o) s i) (look-identifier r so id o s i)
             | eq i ↦ as-full r so id o (quick-pair r so id (o .long) (low r so id o) s i) (full-pair r so id o s i)
           ]
     ]

@@ -5,13 +5,12 @@ use Rattle.catalogue.proofs.look_up.look_up.Statement.{statement}
 use Rattle.catalogue.proofs.look_up.look_up.Tie as tie
 use mathlib.Core.Path.{_∙_}
 use Prim.Native.Nat.{ℕ}
-use borrow.Author.Tests.{eq-eqb, ne-eqb}
 use Rattle.catalogue.specs.Ordered.{Ordered}
 use Rattle.catalogue.specs.LookUp.{looked, lookUp}
 use Rattle.catalogue.proofs.laws.room.Encode.{room-size}
 use Rattle.catalogue.proofs.laws.room.Order.{front-length, front-ordered, front-disordered}
-use Rattle.catalogue.proofs.laws.room.LookUp.{look-pair}
-use Rattle.catalogue.proofs.laws.room.View.{checked-short, checked-disorder, checked-fine}
+use Rattle.catalogue.proofs.laws.room.LookUp.{look-source, look-identifier, look-pair}
+use Rattle.catalogue.proofs.laws.room.View.{checked-short, checked-disorder}
 
 in-order : (c : tie.Else2) → Ordered (c .before .before .before .before .before .before .before .args .room .now)
 in-order c = front-ordered (c .before .before .before .before .before .before .before .args .room .now) (c .before .before .before .if1 .left) (c .before .named-pairs .ensures) (c .if2 .left)
@@ -33,14 +32,14 @@ returns-2 c =
     rw (checked-disorder r (λ (n : ℕ). looked n 0) _ (omega (arith, room-size)) (front-disordered r h (c .before .before .named-pairs .ensures) (c .before .if2 .taken))) (c .none2 .ensures)
 
 returns-3 : tie.Need-returns-3
-unfolding lookUp
 returns-3 c =
-    rw (checked-fine _ (λ (n : ℕ). looked n 0) _ (in-order (c .before .before)), ne-eqb _ 2 (c .before .if3 .taken)) (c .none3 .ensures)
+    let a = c .before .before .before .before .before .before .before .before .before .args in
+    c .none3 .ensures ∙ look-source (a .room .now) (a .source .now) (a .identifier .now) (in-order (c .before .before)) (c .before .if3 .taken)
 
 returns-4 : tie.Need-returns-4
-unfolding lookUp
 returns-4 c =
-    rw (checked-fine _ (λ (n : ℕ). looked n 0) _ (in-order (c .before .before .before)), eq-eqb _ 2 (c .before .before .if3 .left), ne-eqb _ 8 (c .before .if4 .taken)) (c .none4 .ensures)
+    let a = c .before .before .before .before .before .before .before .before .before .before .args in
+    c .none4 .ensures ∙ look-identifier (a .room .now) (a .source .now) (a .identifier .now) (in-order (c .before .before .before)) (c .before .before .if3 .left) (c .before .if4 .taken)
 
 look-in-requires : tie.Need-look-in-requires
 look-in-requires c κs = in-order (c .before .before .before)
