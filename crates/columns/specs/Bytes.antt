@@ -25,10 +25,14 @@ abbrev pub isNone : List ℕ → Bool
 isNone [] = true
 isNone (b ∷ s) = false
 
+-- the bytes after the leading ones of a code
+unfoldable pub skip : ℕ → List ℕ → List ℕ
+skip x [] = []
+skip x (b ∷ s) = pick (eqb b x) (skip x s) (b ∷ s)
+
 -- the bytes after the leading blanks
-unfoldable pub trim : List ℕ → List ℕ
-trim [] = []
-trim (b ∷ s) = pick (eqb b 32) (trim s) (b ∷ s)
+abbrev pub trim : List ℕ → List ℕ
+trim f = skip 32 f
 
 -- nothing but blanks
 abbrev pub allBlank : List ℕ → Bool

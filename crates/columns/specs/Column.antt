@@ -7,6 +7,7 @@ use lib.Signed.{ltZ, leZ}
 use lib.ListN.{length, getD}
 use lib.Dec.{leb, ltb}
 use Rattle.columns.specs.Answer.{pick}
+use Rattle.columns.specs.Bytes.{isText}
 use Rattle.columns.specs.Calendar.{daysIn}
 use Rattle.columns.specs.Number.{formWidth, goodForm}
 use Rattle.columns.specs.declared.number.Field.{Field}
@@ -87,13 +88,13 @@ pub data Rule : Type 0 where
   notAllBlank : Rule
   blankOrFilled : Rule
 
--- a number; text; a letter of a set; a group; a stretch of blanks
+-- a number; text; a letter of a set; a group; columns that all hold one printed byte
 pub data Col : Type 0 where
   numeric : Form → Bool → Range → Col
   text : ℕ → Rule → Col
   letter : List ℕ → Col
   group : Group → Col
-  blank : ℕ → Col
+  printed : ℕ → ℕ → Col
 
 -- iW and fW.D
 abbrev pub integer : ℕ → Bool → Range → Col
@@ -101,6 +102,14 @@ integer w q g = numeric (N.Integer w) q g
 
 abbrev pub decimal : ℕ → ℕ → Bool → Range → Col
 decimal w d q g = numeric (N.Decimal w d) q g
+
+-- a stretch of blanks
+abbrev pub blank : ℕ → Col
+blank w = printed 32 w
+
+-- a mark, as a card's key letter. Document 02, Wish 5
+abbrev pub mark : ℕ → Col
+mark b = printed b 1
 
 -- the clock time i2:i2:f6.3: hour and minute as for E, thousandths of a second. Document 01, "The phase line"
 abbrev pub clockTime : Group
@@ -153,23 +162,23 @@ width (numeric f q g) = formWidth f
 width (text w r) = w
 width (letter s) = 1
 width (group g) = groupWidth g
-width (blank w) = w
+width (printed b w) = w
 
 abbrev pub slots : Col → ℕ
 slots (numeric f q g) = 1
 slots (text w r) = 0
 slots (letter s) = 0
 slots (group g) = 3
-slots (blank w) = 0
+slots (printed b w) = 0
 
 abbrev pub texts : Col → ℕ
 texts (numeric f q g) = 0
 texts (text w r) = w
 texts (letter s) = 1
 texts (group g) = 0
-texts (blank w) = 0
+texts (printed b w) = 0
 
--- well-formed: the forms of numbers are; text has a byte; a group's mark is a mark byte and its numbers are not negative
+-- well-formed: the forms of numbers are; text has a byte; a printed byte is text; a group's mark is a mark byte and its numbers are not negative
 abbrev pub goodPart : Part → Bool
 goodPart p = goodForm (p .form) && not (ltZ (p .low) (pos 0))
 
@@ -181,7 +190,7 @@ goodCol (numeric f q g) = goodForm f
 goodCol (text w r) = leb 1 w
 goodCol (letter s) = true
 goodCol (group g) = goodGroup g
-goodCol (blank w) = true
+goodCol (printed b w) = isText b
 
 unfoldable pub good : List Col → Bool
 good [] = true
@@ -214,7 +223,7 @@ barsOf (numeric f q g) = false
 barsOf (text w r) = ruleBars r
 barsOf (letter s) = false
 barsOf (group g) = false
-barsOf (blank w) = false
+barsOf (printed b w) = false
 
 -- the columns that bar brackets are those of the stretch `from` to `to`, and no other; the first comes after `at` bytes
 abbrev pub inStretch : Col → ℕ → ℕ → ℕ → Bool

@@ -8,7 +8,7 @@ use lib.Dec.{T, eqb}
 use lib.Seq.{slice}
 use Rattle.columns.specs.Answer.{pick, isOk}
 use Rattle.columns.specs.Number.{intField}
-use Rattle.columns.specs.Column.{Slot, slotIn, Range, asHeld, notNegative, calendarDay, span, lastDay, lastDayAfter, Col, numeric, text, letter, group, blank, good, widths}
+use Rattle.columns.specs.Column.{Slot, slotIn, Range, asHeld, notNegative, calendarDay, span, lastDay, lastDayAfter, Col, numeric, text, letter, group, printed, good, widths}
 use Rattle.columns.specs.Reading.{readCell}
 use Rattle.columns.specs.declared.number.Form.the-variants as N
 
@@ -19,7 +19,7 @@ simpleCol (numeric (N.Decimal w d) q g) = false
 simpleCol (text w r) = true
 simpleCol (letter s) = false
 simpleCol (group g) = false
-simpleCol (blank w) = false
+simpleCol (printed b w) = false
 
 -- a range that goes by the numbers before it, and a column with it: a day
 abbrev pub looksBack : Range → Bool
@@ -33,7 +33,7 @@ isDay (numeric m q g) = looksBack g
 isDay (text w r) = false
 isDay (letter s) = false
 isDay (group g) = false
-isDay (blank w) = false
+isDay (printed b w) = false
 
 -- what of a date, i4 and i2, ends with a column: 0 nothing, 1 its year, 2 its year and month; before the column there was n of it
 abbrev pub dateTo : ℕ → Col → ℕ
@@ -42,7 +42,7 @@ dateTo n (numeric (N.Decimal w d) q g) = 0
 dateTo n (text w r) = 0
 dateTo n (letter s) = 0
 dateTo n (group g) = 0
-dateTo n (blank w) = 0
+dateTo n (printed b w) = 0
 
 -- integers and text, a day only after its year and month
 abbrev pub simple : ℕ → List Col → Bool

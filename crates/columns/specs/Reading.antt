@@ -7,9 +7,9 @@ use lib.IntN.{ℤ}
 use lib.ListN.{length, take, drop, getD}
 use lib.Dec.{eqb}
 use Rattle.columns.specs.Answer.{pick, Answer, ok, refusal, unless, chain, notBlank, requiredBlank, badForm, outOfRange, wrongLetter}
-use Rattle.columns.specs.Bytes.{isNone, trim, allBlank, member}
+use Rattle.columns.specs.Bytes.{isNone, skip, allBlank, member}
 use Rattle.columns.specs.Number.{fieldOf}
-use Rattle.columns.specs.Column.{Slot, missing, given, Rec, joined, allowed, Rule, anyText, noBrackets, notBlankFirst, notAllBlank, blankOrFilled, Col, numeric, text, letter, group, blank, width}
+use Rattle.columns.specs.Column.{Slot, missing, given, Rec, joined, allowed, Rule, anyText, noBrackets, notBlankFirst, notAllBlank, blankOrFilled, Col, numeric, text, letter, group, printed, width}
 use Rattle.columns.specs.Group.{groupField, judgeGroup}
 use Rattle.columns.specs.declared.number.Field.{Field}
 use Rattle.columns.specs.declared.number.Field.the-variants as F
@@ -52,10 +52,10 @@ abbrev pub asText : Answer (List ℕ) → Answer Rec
 asText (ok f) = ok (someText f)
 asText (refusal n k) = refusal n k
 
--- the first byte that is not blank, 4 at its own column
-abbrev pub judgeBlanks : ℕ → List ℕ → Answer Rec
-judgeBlanks at f =
-    pick (isNone (trim f)) (ok nothing) (refusal notBlank (at + 1 + (length f - length (trim f))))
+-- the first byte that is not as printed, 4 at its own column
+abbrev pub judgePrinted : ℕ → ℕ → List ℕ → Answer Rec
+judgePrinted b at f =
+    pick (isNone (skip b f)) (ok nothing) (refusal notBlank (at + 1 + (length f - length (skip b f))))
 
 -- the column in the bytes f, after the first `at` bytes of the line and the numbers `seen`
 unfoldable pub readCell : Col → List Slot → ℕ → List ℕ → Answer Rec
@@ -64,7 +64,7 @@ readCell (text w r) seen at f = asText (judgeText r at f (ok f))
 readCell (letter s) seen at f =
     pick (member (getD f 0 0) s) (ok (someText f)) (refusal wrongLetter (at + 1))
 readCell (group g) seen at f = judgeGroup g seen at (groupField g f)
-readCell (blank w) seen at f = judgeBlanks at f
+readCell (printed b w) seen at f = judgePrinted b at f
 
 -- the columns, one after the other; `line` is what comes after the first `at` bytes
 unfoldable pub readColumns : List Col → List Slot → ℕ → List ℕ → Answer Rec

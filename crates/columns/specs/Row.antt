@@ -5,9 +5,9 @@ use mathlib.Core.List.{List, [], _∷_}
 use mathlib.Core.Bool.{Bool, true, false, _&&_}
 use lib.IntN.{natAbs}
 use lib.ListN.{take, drop}
-use lib.Dec.{T, eqb, leb}
+use lib.Dec.{T, eqb, leb, ltb}
 use Rattle.columns.specs.Answer.{pick, Answer, refusal, badForm}
-use Rattle.columns.specs.Column.{Slot, missing, given, Rule, anyText, noBrackets, notBlankFirst, notAllBlank, blankOrFilled, Col, numeric, text, letter, group, blank, slots, widths, allSlots, allTexts}
+use Rattle.columns.specs.Column.{Slot, missing, given, Rule, anyText, noBrackets, notBlankFirst, notAllBlank, blankOrFilled, Col, numeric, text, letter, group, printed, slots, widths, allSlots, allTexts}
 use Rattle.columns.specs.Writing.{writeLine}
 use Rattle.columns.specs.Table.{sizesOf, sound, Sound}
 
@@ -56,7 +56,7 @@ opens (numeric m q g) = false
 opens (text w x) = opensText w x
 opens (letter s) = false
 opens (group g) = false
-opens (blank w) = false
+opens (printed b w) = leb 1 w && ltb 32 b
 
 -- the first column keeps the line from beginning with a blank and `(`
 abbrev pub opensRow : List Col → Bool
@@ -76,7 +76,7 @@ fills (numeric m q g) = q
 fills (text w x) = fillsText x
 fills (letter s) = false
 fills (group g) = false
-fills (blank w) = false
+fills (printed b w) = leb 1 w && ltb 32 b
 
 -- some column may not be blank
 abbrev pub someFilled : List Col → Bool

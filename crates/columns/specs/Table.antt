@@ -9,7 +9,7 @@ use lib.ListN.{length, take, drop, getD}
 use lib.Seq.{slice}
 use lib.Dec.{T, eqb, leb, ltb}
 use Rattle.columns.specs.Answer.{pick, Answer, ok, refusal}
-use Rattle.columns.specs.Column.{Slot, missing, given, Rec, Range, asHeld, notNegative, calendarDay, span, Rule, anyText, noBrackets, notBlankFirst, notAllBlank, blankOrFilled, clockTime, calendarDate, groupWidth, Col, numeric, text, letter, group, blank, width, slots, texts, goodCol, good, widths, allSlots, allTexts, inStretch, bracketsIn}
+use Rattle.columns.specs.Column.{Slot, missing, given, Rec, Range, asHeld, notNegative, calendarDay, span, Rule, anyText, noBrackets, notBlankFirst, notAllBlank, blankOrFilled, clockTime, calendarDate, groupWidth, Col, numeric, text, letter, group, printed, width, slots, texts, goodCol, good, widths, allSlots, allTexts, inStretch, bracketsIn}
 use Rattle.columns.specs.declared.number.Form.{Form}
 use Rattle.columns.specs.declared.number.Form.the-variants as N
 use Rattle.columns.specs.declared.group.Group.{Group}
@@ -51,13 +51,13 @@ abbrev pub formIn : Column → Form
 formIn c = pick (eqb (c .kind) 0) (N.Integer (c .width)) (N.Decimal (c .width) (c .place))
 
 -- kinds 0 and 1 are numbers (the last part is the range), 2 text (its rule), 3 a letter of a set (as many letters from its place), 4
--- a group (which), any other a stretch of blanks
+-- a group (which), any other a printed byte (its code)
 abbrev pub colOf : Column → List ℤ → List ℕ → Col
 colOf c rs ls =
     pick (ltb (c .kind) 2) (numeric (formIn c) (c .required) (rangeAt rs (c .last)))
     (pick (eqb (c .kind) 2) (text (c .width) (ruleAt (c .last)))
     (pick (eqb (c .kind) 3) (letter (slice (c .place) (c .place + c .last) ls))
-    (pick (eqb (c .kind) 4) (group (groupAt (c .last))) (blank (c .width)))))
+    (pick (eqb (c .kind) 4) (group (groupAt (c .last))) (printed (c .last) (c .width)))))
 
 -- n columns from place i on
 abbrev pub columnsOf : List ℕ → List ℤ → List ℕ → ℕ → ℕ → List Col

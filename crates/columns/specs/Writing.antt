@@ -9,7 +9,7 @@ use lib.Dec.{eqb, ltb}
 use Rattle.columns.specs.Answer.{pick, Answer, ok, refusal, both, barredByte, requiredBlank, outOfRange, wrongLetter, tooWide, tooShort}
 use Rattle.columns.specs.Bytes.{barred, member}
 use Rattle.columns.specs.Number.{formWidth, holds, fieldBytes}
-use Rattle.columns.specs.Column.{Slot, missing, given, allowed, ruleBars, Col, numeric, text, letter, group, blank, width, slots, texts, widths}
+use Rattle.columns.specs.Column.{Slot, missing, given, allowed, ruleBars, Col, numeric, text, letter, group, printed, width, slots, texts, widths}
 use Rattle.columns.specs.Group.{putGroup}
 use Rattle.columns.specs.Reading.{judgeText}
 use Rattle.columns.specs.declared.number.Form.{Form}
@@ -37,7 +37,7 @@ writeCell (letter s) seen at ns t =
     putText false at t (pick (member (getD t 0 0) s) (ok t) (refusal wrongLetter (at + 1)))
 writeCell (group g) seen at ns t =
     putGroup g seen at (getD ns 0 missing) (getD ns 1 missing) (getD ns 2 missing)
-writeCell (blank w) seen at ns t = ok (replicate w 32)
+writeCell (printed b w) seen at ns t = ok (replicate w b)
 
 -- the columns, one after the other; `ns` and `t` are what is left of the record
 unfoldable pub writeColumns : List Col → List Slot → ℕ → List Slot → List ℕ → Answer (List ℕ)

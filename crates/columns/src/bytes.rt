@@ -6,22 +6,29 @@ ghost use Prim.Native.Nat.{_+_, _-_, _≤_};
 ghost use lib.ListN.{length, take, drop, replicate};
 ghost use lib.Seq.{slice};
 ghost use Rattle.columns.specs.Answer.{pick};
-ghost use Rattle.columns.specs.Bytes.{trim, isDigit, isBracket, isAllowed, inside, Plain, barred, member, sameBytes};
+ghost use Rattle.columns.specs.Bytes.{skip, trim, isDigit, isBracket, isAllowed, inside, Plain, barred, member, sameBytes};
 ghost use Rattle.columns.specs.Table.{placed};
 
-// All blank. One byte, the usual case, is written without a call to the compiler's own filling.
-pub fn blanks(out: &mut [u8])
-    ensures { λ _. ⌜ now (out .exit) ≡ replicate (length (now (out .entry))) 32 ⌝ }
+// All bytes `b`. One byte, the usual case, is written without a call to the compiler's own filling.
+pub fn fill(out: &mut [u8], b: u8)
+    ensures { λ _. ⌜ now (out .exit) ≡ replicate (length (now (out .entry))) b ⌝ }
 {
     if out.len() == 1 {
-        out[0] = 32;
+        out[0] = b;
         return;
     }
     let mut i = 0;
     while i < out.len() {
-        out[i] = 32;
+        out[i] = b;
         i += 1;
     }
+}
+
+// All blank.
+pub fn blanks(out: &mut [u8])
+    ensures { λ _. ⌜ now (out .exit) ≡ replicate (length (now (out .entry))) 32 ⌝ }
+{
+    fill(out, 32);
 }
 
 // The bytes of `from`, over the first of `out`.
@@ -45,19 +52,27 @@ pub fn copy_at(out: &mut [u8], at: usize, from: &[u8])
     copy(&mut out[at..end], from);
 }
 
-// The first place from `from` to `to` that is no blank, or `to`.
-pub fn skip_blanks(line: &[u8], from: usize, to: usize) -> usize
+// The first place from `from` to `to` that is no byte `b`, or `to`.
+pub fn skip(line: &[u8], from: usize, to: usize, b: u8) -> usize
     requires { ⌜ (from ≤ to) × (to ≤ length (now line)) ⌝ }
-    ensures { λ r. ⌜ (from ≤ r) × ((r ≤ to) × (trim (slice from to (now (line .entry))) ≡ slice r to (now (line .entry)))) ⌝ }
+    ensures { λ r. ⌜ (from ≤ r) × ((r ≤ to) × (skip b (slice from to (now (line .entry))) ≡ slice r to (now (line .entry)))) ⌝ }
 {
     let mut i = from;
     while i < to {
-        if line[i] != 32 {
+        if line[i] != b {
             return i;
         }
         i += 1;
     }
     i
+}
+
+// The first place from `from` to `to` that is no blank, or `to`.
+pub fn skip_blanks(line: &[u8], from: usize, to: usize) -> usize
+    requires { ⌜ (from ≤ to) × (to ≤ length (now line)) ⌝ }
+    ensures { λ r. ⌜ (from ≤ r) × ((r ≤ to) × (trim (slice from to (now (line .entry))) ≡ slice r to (now (line .entry)))) ⌝ }
+{
+    skip(line, from, to, 32)
 }
 
 pub fn is_digit(b: u8) -> bool

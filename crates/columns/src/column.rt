@@ -16,8 +16,8 @@ ghost use Rattle.columns.specs.Reading.{ruleRefuses, ruleNumber};
 ghost use Rattle.columns.specs.Table.{columnIn, rangeAt, ruleAt, formIn, widthBy, slotsBy, textsBy, slotOf, slotsOf};
 
 // A row of a table is a sum: a kind; places, the decimals of a number or the place of a set's first letter; widths, the columns;
-// REQUIRED for a number that must be there; and last the range of a number, the rule of a text, the count of a set's letters
-// or the number of a group.
+// REQUIRED for a number that must be there; and last the range of a number, the rule of a text, the count of a set's letters,
+// the number of a group or the code of a printed byte.
 pub const INTEGER: u32 = 0;
 
 pub const DECIMAL: u32 = 16777216;
@@ -28,7 +28,10 @@ pub const LETTER: u32 = 50331648;
 
 pub const GROUP: u32 = 67108864;
 
-pub const BLANK: u32 = 83886080;
+// A printed byte: its code is the last part of the row. Of a stretch of blanks it is 32.
+pub const PRINTED: u32 = 83886080;
+
+pub const BLANK: u32 = PRINTED + 32;
 
 pub const PLACES: u32 = 32768;
 

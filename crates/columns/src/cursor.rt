@@ -1,7 +1,7 @@
 // The cursor: it reads one column field and is handed back with the value.
 use super::bytes::copy_at;
 use super::bytes::has;
-use super::bytes::skip_blanks;
+use super::bytes::skip;
 use super::column::Column;
 use super::column::day_after;
 use super::column::in_range_at;
@@ -23,7 +23,7 @@ ghost use lib.ListN.{length, take};
 ghost use lib.Seq.{slice};
 ghost use lib.Dec.{T};
 ghost use Rattle.columns.specs.Number.{intField, decField};
-ghost use Rattle.columns.specs.Column.{Slot, calendarDay, allowed, text, letter, blank, width, groupWidth, goodGroup};
+ghost use Rattle.columns.specs.Column.{Slot, calendarDay, allowed, text, letter, printed, width, groupWidth, goodGroup};
 ghost use Rattle.columns.specs.Group.{groupField, judgeGroup};
 ghost use Rattle.columns.specs.Reading.{judge, readCell};
 ghost use Rattle.columns.specs.Table.{rangeAt, ruleAt, colOf, slotsOf, placed};
@@ -35,7 +35,7 @@ pub struct Cursor {
 }
 
 // What a column holds: a number that is missing or given, a group that is missing or given, its own bytes (text or a
-// letter), nothing (blanks); or the number and column of its refusal.
+// letter), nothing (printed bytes); or the number and column of its refusal.
 pub enum Cell {
     Absent,
     Number(i64),
@@ -218,15 +218,15 @@ impl Cursor {
         }
     }
 
-    // A stretch of blanks: any other byte is 4 at its own column.
-    pub fn blanks(self, line: &[u8], width: usize) -> CellRead
+    // Columns that all hold the printed byte `b`: any other is 4 at its own column.
+    pub fn printed(self, line: &[u8], width: usize, b: u8) -> CellRead
         requires { ⌜ (self .at + width ≤ length (now line)) × (length (now line) ≤ 4096) ⌝ }
-        ensures { λ r. ⌜ Found (readCell (blank width) [] (self .at) (slice (self .at) (self .at + width) (now (line .entry)))) r (self .at) width (slice (self .at) (self .at + width) (now (line .entry))) ⌝ }
+        ensures { λ r. ⌜ Found (readCell (printed b width) [] (self .at) (slice (self .at) (self .at + width) (now (line .entry)))) r (self .at) width (slice (self .at) (self .at + width) (now (line .entry))) ⌝ }
     {
         let at = self.at;
         let end = at + width;
         let next = Cursor { at: end };
-        let start = skip_blanks(line, at, end);
+        let start = skip(line, at, end, b);
         if start == end {
             return CellRead {
                 cell: Cell::Gap,
@@ -264,7 +264,7 @@ impl Cursor {
                 next,
             };
         }
-        self.blanks(line, c.width)
+        self.printed(line, c.width, last as u8)
     }
 
     // Any column of a table, after the first k numbers of the record.

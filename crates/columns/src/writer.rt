@@ -2,11 +2,12 @@
 use super::Outcome;
 use super::bytes::blanks;
 use super::bytes::copy;
+use super::bytes::fill;
 use super::bytes::first_barred;
 use super::bytes::has;
 use super::bytes::is_barred;
-use super::column::BLANK;
 use super::column::Column;
+use super::column::PRINTED;
 use super::column::allows;
 use super::column::column_in;
 use super::column::form_in;
@@ -194,7 +195,7 @@ fn write_cell(
     if kind == 4 {
         return write_group(out, at, group_at(c.last), flags, values, k);
     }
-    blanks(out);
+    fill(out, c.last as u8);
     Outcome::Done
 }
 
@@ -226,8 +227,8 @@ pub fn put_columns(
         let row = rows[i];
         let c = column_in(row);
         let end = at + width_in(c);
-        if BLANK <= row {
-            blanks(&mut out[at..end]);
+        if PRINTED <= row {
+            fill(&mut out[at..end], c.last as u8);
             at = end;
             i += 1;
             continue;

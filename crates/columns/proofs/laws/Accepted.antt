@@ -12,9 +12,9 @@ use Rattle.columns.specs.declared.number.Field.{Field}
 use Rattle.columns.specs.declared.number.Form.{Form}
 use Rattle.columns.specs.declared.group.Group.{Group}
 use Rattle.columns.specs.Answer.{Answer, ok, notBlank, requiredBlank, outOfRange, wrongLetter}
-use Rattle.columns.specs.Bytes.{isNone, trim, member}
+use Rattle.columns.specs.Bytes.{isNone, skip, member}
 use Rattle.columns.specs.Number.{formWidth, goodForm, fieldOf, holds, fieldBytes}
-use Rattle.columns.specs.Column.{Slot, missing, given, Rec, joined, Range, allowed, Rule, ruleBars, Col, numeric, text, letter, group, blank, width, slots, texts, groupWidth, goodGroup, goodCol, good, widths, allSlots, allTexts, barsOf}
+use Rattle.columns.specs.Column.{Slot, missing, given, Rec, joined, Range, allowed, Rule, ruleBars, Col, numeric, text, letter, group, printed, width, slots, texts, groupWidth, goodGroup, goodCol, good, widths, allSlots, allTexts, barsOf}
 use Rattle.columns.specs.Reading.{nothing, oneNumber, someText, judge, readCell, readColumns}
 use Rattle.columns.specs.Writing.{putNumber, putText, writeCell, writeColumns}
 use Rattle.columns.proofs.laws.Clear.{Clear, clear-barred}
@@ -80,19 +80,19 @@ module _ (seen : List Slot) (at : ℕ) (f : List ℕ) (r : Rec) where
       let c = group-took g seen at r f o l e in
       rw (← c .is) (record { bytes = c .line; numbers = refl; chars = refl; written = c .put })
 
-  blank-accepted : (w : ℕ) → readCell (blank w) seen at f ≡ ok r → Accepted (blank w) seen at r
+  printed-accepted : (b w : ℕ) → readCell (printed b w) seen at f ≡ ok r → Accepted (printed b w) seen at r
   unfolding readCell writeCell
-  blank-accepted w e =
-      let a = held (isNone (trim f)) notBlank (at + 1 + (length f - length (trim f))) (ok nothing) r e in
+  printed-accepted b w e =
+      let a = held (isNone (skip b f)) notBlank (at + 1 + (length f - length (skip b f))) (ok nothing) r e in
       let d : nothing ≡ r = cc (a .1) in
-      rw (← d) (record { bytes = replicate w 32; numbers = refl; chars = refl; written = refl })
+      rw (← d) (record { bytes = replicate w b; numbers = refl; chars = refl; written = refl })
 
 pub cell-accepted : (c : Col) (seen : List Slot) (at : ℕ) (f : List ℕ) (r : Rec) → Clear (barsOf c) f → T (goodCol c) → length f ≡ width c → readCell c seen at f ≡ ok r → Accepted c seen at r
 cell-accepted (numeric m q g) seen at f r p o l e = number-accepted seen at f r m q g o l e
 cell-accepted (text w x) seen at f r p o l e = text-accepted seen at f r w x p l e
 cell-accepted (letter s) seen at f r p o l e = letter-accepted seen at f r s p l e
 cell-accepted (group g) seen at f r p o l e = group-accepted seen at f r g o l e
-cell-accepted (blank w) seen at f r p o l e = blank-accepted seen at f r w e
+cell-accepted (printed b w) seen at f r p o l e = printed-accepted seen at f r b w e
 
 -- ---- a list of columns
 

@@ -12,13 +12,13 @@ use Rattle.columns.specs.declared.number.Form.{Form}
 use Rattle.columns.specs.declared.group.Three.{Three}
 use Rattle.columns.specs.declared.group.Group.{Group}
 use Rattle.columns.specs.Answer.{pick, Answer, ok, refusal, both, chain, notBlank}
-use Rattle.columns.specs.Bytes.{isNone, trim, barred, isAllowed, inside, member}
+use Rattle.columns.specs.Bytes.{isNone, skip, barred, isAllowed, inside, member}
 use Rattle.columns.specs.Number.{formWidth, fieldOf, holds}
-use Rattle.columns.specs.Column.{Slot, missing, given, Rec, joined, allowed, Rule, ruleBars, Col, numeric, text, letter, group, blank, groupWidth, width, slots, texts, goodCol, good, widths}
+use Rattle.columns.specs.Column.{Slot, missing, given, Rec, joined, allowed, Rule, ruleBars, Col, numeric, text, letter, group, printed, groupWidth, width, slots, texts, goodCol, good, widths}
 use Rattle.columns.specs.Group.{groupField, judgeGroup, groupRange, groupHolds, putGroup}
 use Rattle.columns.specs.Reading.{nothing, judge, ruleRefuses, judgeText, asText, readCell, readColumns}
 use Rattle.columns.specs.Writing.{putNumber, putText, barredIn, writeCell, writeColumns}
-use Rattle.columns.proofs.laws.Bytes.{trim-short}
+use Rattle.columns.proofs.laws.Bytes.{skip-short}
 use Rattle.columns.proofs.laws.Form.{form-wide}
 use Rattle.columns.proofs.laws.Tests.{T-and}
 use Rattle.columns.specs.declared.number.Field.the-variants as F
@@ -64,7 +64,7 @@ text-column : (x : Answer (List ℕ)) → columnOf (asText x) ≡ columnOf x
 text-column (ok f) = refl
 text-column (refusal n k) = refl
 
--- a byte that is not blank stands in the stretch
+-- a byte that is not as printed stands in the stretch
 stretch-case : (at w : ℕ) (f s : List ℕ) → length f ≤ w → length s ≤ length f → columnOf (pick (isNone s) (ok nothing) (refusal notBlank (at + 1 + (length f - length s)))) ≤ at + w
 stretch-case at w f [] h l = omega arith
 stretch-case at w f (b ∷ s) h l = omega arith
@@ -75,7 +75,7 @@ cell-bound (numeric m q g) seen at f h l = judge-bound q (allowed g seen) at (fo
 cell-bound (text w x) seen at f h l = rw (text-column (judgeText x at f (ok f))) (rule-bound x at w f (ok f) (leb→le 1 w h) (omega arith))
 cell-bound (letter s) seen at f h l = pick-bound (at + 1) (member (getD f 0 0) s) _ _ (omega arith) (omega arith)
 cell-bound (group g) seen at f h l = group-bound g seen at (groupWidth g) (groupField g f) (omega arith)
-cell-bound (blank w) seen at f h l = stretch-case at w f (trim f) l (trim-short f)
+cell-bound (printed b w) seen at f h l = stretch-case at w f (skip b f) l (skip-short b f)
 
 pub read-bound : (cs : List Col) (seen : List Slot) (at : ℕ) (line : List ℕ) → T (good cs) → columnOf (readColumns cs seen at line) ≤ at + widths cs
 unfolding readColumns widths good
@@ -122,7 +122,7 @@ put-bound (text w x) seen at ns t h k = rule-bound x at w t _ (leb→le 1 w h) (
 put-bound (letter s) seen at ns t h k =
     text-bound false at 1 t _ k (pick-bound (at + 1) (member (getD t 0 0) s) _ _ (omega arith) (omega arith))
 put-bound (group g) seen at ns t h k = three-bound g seen at (groupWidth g) (getD ns 0 missing) (getD ns 1 missing) (getD ns 2 missing) (omega arith)
-put-bound (blank w) seen at ns t h k = omega arith
+put-bound (printed b w) seen at ns t h k = omega arith
 
 pub write-bound : (cs : List Col) (seen : List Slot) (at : ℕ) (ns : List Slot) (t : List ℕ) → T (good cs) → columnOf (writeColumns cs seen at ns t) ≤ at + widths cs
 unfolding writeColumns widths good

@@ -11,7 +11,7 @@ use lib.Seq.{slice, slice-cons, slice-empty, take-nil, drop-nil, take-take, drop
 use lib.Dec.{eqb, ltb}
 use borrow.Author.Tests.{eq-eqb, ne-eqb, eqb-true, lt-leb, le-leb, ltb-true, ltb-false}
 use Rattle.columns.specs.Answer.{pick}
-use Rattle.columns.specs.Bytes.{isText, isBracket, isNone, trim, allBlank, isAllowed, inside, Plain, Free, barred, member, sameBytes}
+use Rattle.columns.specs.Bytes.{isText, isBracket, isNone, trim, allBlank, isAllowed, inside, Plain, Free, barred, member, sameBytes, skip}
 
 -- ---- a stretch of a line
 
@@ -36,33 +36,40 @@ slice-take l a p e h = take-drop a p (take e l) ∙ rw (take-take (a + p) e l h)
 pub slice-drop : (l : List ℕ) (a p e : ℕ) → drop p (slice a e l) ≡ slice (a + p) e l
 slice-drop l a p e = drop-drop p a (take e l)
 
--- ---- blanks
+-- ---- bytes of one code, blanks among them
 
-module _ (l : List ℕ) (i to : ℕ) (h : i < to) (k : to ≤ length l) where
-  pub trim-blank : getD l i 0 ≡ 32 → trim (slice i to l) ≡ trim (slice (i + 1) to l)
-  unfolding trim
-  trim-blank e = rw (part-cons l i to h k) (rw (eq-eqb _ _ e))
+module _ (x : ℕ) (l : List ℕ) (i to : ℕ) where
+  module _ (h : i < to) (k : to ≤ length l) where
+    pub skip-same : getD l i 0 ≡ x → skip x (slice i to l) ≡ skip x (slice (i + 1) to l)
+    unfolding skip
+    skip-same e = rw (part-cons l i to h k) (rw (eq-eqb _ _ e))
 
-  pub trim-other : (getD l i 0 ≡ 32 → ⊥) → trim (slice i to l) ≡ slice i to l
-  unfolding trim
-  trim-other e = rw (part-cons l i to h k) (rw (ne-eqb _ _ e))
+    pub skip-other : (getD l i 0 ≡ x → ⊥) → skip x (slice i to l) ≡ slice i to l
+    unfolding skip
+    skip-other e = rw (part-cons l i to h k) (rw (ne-eqb _ _ e))
 
-pub trim-none : (l : List ℕ) (i to : ℕ) → to ≤ i → i ≤ to → trim (slice i to l) ≡ slice i to l
-unfolding trim
-trim-none l i to h k = rw (part-none l i to h k)
+  pub skip-none : to ≤ i → i ≤ to → skip x (slice i to l) ≡ slice i to l
+  unfolding skip
+  skip-none h k = rw (part-none l i to h k)
 
 pick-short : (t : Bool) (x y : List ℕ) (n : ℕ) → length x ≤ n → length y ≤ n → length (pick t x y) ≤ n
 pick-short true x y n p q = p
 pick-short false x y n p q = q
 
-pub trim-short : (s : List ℕ) → length (trim s) ≤ length s
-unfolding trim
-trim-short [] = omega arith
-trim-short (x ∷ s) = pick-short (eqb x 32) (trim s) (x ∷ s) _ (omega (arith, trim-short s)) (omega arith)
+pub skip-short : (x : ℕ) (s : List ℕ) → length (skip x s) ≤ length s
+unfolding skip
+skip-short x [] = omega arith
+skip-short x (b ∷ s) = pick-short (eqb b x) (skip x s) (b ∷ s) _ (omega (arith, skip-short x s)) (omega arith)
+
+-- nothing else is left nothing
+pub skip-all : (x w : ℕ) → skip x (replicate w x) ≡ []
+unfolding skip
+skip-all x zero = refl
+skip-all x (suc w) = rw (eq-eqb x x refl) (skip-all x w)
 
 -- nothing but blanks has no other byte
 blank-head : (b : ℕ) (s : List ℕ) → allBlank (b ∷ s) ≡ true → (b ≡ 32) × (allBlank s ≡ true)
-unfolding trim
+unfolding skip
 blank-head b s e = by-test (eqb b 32) refl e
   where
     by-test : (t : Bool) → eqb b 32 ≡ t → isNone (pick t (trim s) (b ∷ s)) ≡ true → (b ≡ 32) × (allBlank s ≡ true)
@@ -74,16 +81,17 @@ blanks-only [] i b h e g = omega arith
 blanks-only (x ∷ s) zero b h e g = omega (arith, blank-head x s e .0)
 blanks-only (x ∷ s) (suc i) b h e g = blanks-only s i b h (blank-head x s e .1) g
 
-pub blank-turn : (l : List ℕ) (i : ℕ) → i < length l → take i l ≡ replicate i 32 → take (i + 1) (set l i 32) ≡ replicate (i + 1) 32
-blank-turn l i h e = rw (add-one, take-suc-set l i 32 h, e) (replicate-append-replicate i 1 32 ∙ rw add-one)
+module _ (b : ℕ) where
+  pub fill-turn : (l : List ℕ) (i : ℕ) → i < length l → take i l ≡ replicate i b → take (i + 1) (set l i b) ≡ replicate (i + 1) b
+  fill-turn l i h e = rw (add-one, take-suc-set l i b h, e) (replicate-append-replicate i 1 b ∙ rw add-one)
 
-pub blank-end : (l : List ℕ) (i n : ℕ) → i ≤ n → n ≤ i → length l ≡ n → take i l ≡ replicate i 32 → l ≡ replicate n 32
-blank-end l i n h k e f = let z : i ≡ n = omega arith in sym (take-all i l (omega arith)) ∙ f ∙ rw z
+  pub fill-end : (l : List ℕ) (i n : ℕ) → i ≤ n → n ≤ i → length l ≡ n → take i l ≡ replicate i b → l ≡ replicate n b
+  fill-end l i n h k e f = let z : i ≡ n = omega arith in sym (take-all i l (omega arith)) ∙ f ∙ rw z
 
-pub blank-one : (l : List ℕ) → length l ≡ 1 → set l 0 32 ≡ replicate (length l) 32
-blank-one [] e = absurd (omega arith)
-blank-one (x ∷ []) e = refl
-blank-one (x ∷ y ∷ l) e = absurd (omega arith)
+  pub fill-one : (l : List ℕ) → length l ≡ 1 → set l 0 b ≡ replicate (length l) b
+  fill-one [] e = absurd (omega arith)
+  fill-one (x ∷ []) e = refl
+  fill-one (x ∷ y ∷ l) e = absurd (omega arith)
 
 -- ---- copies
 

@@ -106,6 +106,10 @@ blank-byte : (bars : Bool) → isAllowed bars 32 ≡ true
 blank-byte true = refl
 blank-byte false = refl
 
+pub clear-repeat : (b w : ℕ) → T (isText b) → Clear false (replicate w b)
+clear-repeat b zero t = none
+clear-repeat b (suc w) t = more {b = b} (rw (T-true (isText b) t)) (clear-repeat b w t)
+
 module _ (bars : Bool) where
   pub clear-blanks : (w : ℕ) → Clear bars (replicate w 32)
   clear-blanks zero = none

@@ -12,14 +12,14 @@ use lib.Seq.{take-append-le, drop-append-le, take-at, drop-at, length-take-le}
 use Rattle.columns.specs.declared.number.Form.{Form}
 use Rattle.columns.specs.declared.group.Group.{Group}
 use Rattle.columns.specs.Answer.{pick, ok, refusal, barredByte, requiredBlank, outOfRange, wrongLetter, tooWide, chain, both, Answer}
-use Rattle.columns.specs.Bytes.{member}
+use Rattle.columns.specs.Bytes.{isText, member}
 use Rattle.columns.specs.Number.{formWidth, goodForm, fieldOf, holds, fieldBytes}
-use Rattle.columns.specs.Column.{Slot, missing, given, Rec, Range, allowed, Rule, ruleBars, Col, numeric, text, letter, group, blank, width, slots, texts, goodGroup, goodCol, good, widths, allSlots, allTexts, barsOf, joined}
+use Rattle.columns.specs.Column.{Slot, missing, given, Rec, Range, allowed, Rule, ruleBars, Col, numeric, text, letter, group, printed, width, slots, texts, goodGroup, goodCol, good, widths, allSlots, allTexts, barsOf, joined}
 use Rattle.columns.specs.Reading.{oneNumber, someText, judge, ruleRefuses, ruleNumber, judgeText, asText, readCell, readColumns}
 use Rattle.columns.specs.Writing.{putNumber, barredIn, putText, writeCell, writeColumns}
-use Rattle.columns.proofs.laws.Clear.{Clear, clear-blanks, barred-clear}
+use Rattle.columns.proofs.laws.Clear.{Clear, clear-blanks, clear-repeat, barred-clear}
 use Rattle.columns.proofs.laws.Answers.{passed, held, split}
-use Rattle.columns.proofs.laws.NumberBack.{trim-blanks}
+use Rattle.columns.proofs.laws.Bytes.{skip-all}
 use Rattle.columns.proofs.laws.Form.{form-back, form-blank, form-length, form-clear}
 use Rattle.columns.proofs.laws.GroupBack.{group-back, three-of}
 use Rattle.columns.proofs.laws.Tests.{T-and}
@@ -120,18 +120,18 @@ module _ (seen : List Slot) (at : ℕ) (ns : List Slot) (t ys : List ℕ) where
       let c = group-back g seen at o (getD ns 0 missing) (getD ns 1 missing) (getD ns 2 missing) ys e in
       record { size = c .size; plain = c .plain; back = c .back ∙ rw (← three-of ns missing a, nil-of t b) }
 
-  blank-written : (w : ℕ) → length ns ≡ 0 → length t ≡ 0 → writeCell (blank w) seen at ns t ≡ ok ys → Written (blank w) seen at ns t ys
+  printed-written : (x w : ℕ) → T (isText x) → length ns ≡ 0 → length t ≡ 0 → writeCell (printed x w) seen at ns t ≡ ok ys → Written (printed x w) seen at ns t ys
   unfolding writeCell readCell
-  blank-written w a b e =
-      let d : replicate w 32 ≡ ys = cc in
-      record { size = rw (← d) (length-replicate w 32); plain = subst (Clear false) d (clear-blanks false w); back = rw (← d, trim-blanks w, nil-of ns a, nil-of t b) }
+  printed-written x w o a b e =
+      let d : replicate w x ≡ ys = cc in
+      record { size = rw (← d) (length-replicate w x); plain = subst (Clear false) d (clear-repeat x w o); back = rw (← d, skip-all x w, nil-of ns a, nil-of t b) }
 
 pub cell-written : (c : Col) (seen : List Slot) (at : ℕ) (ns : List Slot) (t ys : List ℕ) → T (goodCol c) → length ns ≡ slots c → length t ≡ texts c → writeCell c seen at ns t ≡ ok ys → Written c seen at ns t ys
 cell-written (numeric m q g) seen at ns t ys o a b e = number-written seen at ns t ys m q g o a b e
 cell-written (text w r) seen at ns t ys o a b e = text-written seen at ns t ys w r a b e
 cell-written (letter s) seen at ns t ys o a b e = letter-written seen at ns t ys s a b e
 cell-written (group g) seen at ns t ys o a b e = group-written seen at ns t ys g o a b e
-cell-written (blank w) seen at ns t ys o a b e = blank-written seen at ns t ys w a b e
+cell-written (printed x w) seen at ns t ys o a b e = printed-written seen at ns t ys x w o a b e
 
 -- ---- bytes that are allowed, column by column
 

@@ -14,9 +14,9 @@ use Rattle.columns.specs.declared.number.Form.{Form}
 use Rattle.columns.specs.declared.number.Field.{Field}
 use Rattle.columns.specs.declared.cursor.CellRead.{CellRead}
 use Rattle.columns.specs.Answer.{pick, Answer, ok, refusal, notBlank, wrongLetter}
-use Rattle.columns.specs.Bytes.{isNone, trim, allBlank, member}
+use Rattle.columns.specs.Bytes.{isNone, skip, trim, allBlank, member}
 use Rattle.columns.specs.Number.{formWidth, fieldOf}
-use Rattle.columns.specs.Column.{Slot, Rec, Range, allowed, Rule, Col, numeric, text, letter, group, blank, width, firstWidth, secondStart, secondEnd, thirdStart, groupWidth}
+use Rattle.columns.specs.Column.{Slot, Rec, Range, allowed, Rule, Col, numeric, text, letter, group, printed, width, firstWidth, secondStart, secondEnd, thirdStart, groupWidth}
 use Rattle.columns.specs.Group.{threeOf, groupField, judgeGroup}
 use Rattle.columns.specs.Reading.{nothing, someText, judge, ruleRefuses, ruleNumber, readCell}
 use Rattle.columns.specs.Cell.{Found}
@@ -82,15 +82,15 @@ module _ (seen : List Slot) (l : List ℕ) (at : ℕ) where
     unfolding readCell
     letter-other e = rw (first-at l at (at + 1) (omega arith), e)
 
-  -- the first byte of the stretch that is no blank, from place `start` on
-  module _ (w start : ℕ) (h : at + w ≤ length l) (t : trim (slice at (at + w) l) ≡ slice start (at + w) l) where
-    pub gap-blank : start ≡ at + w → ok nothing ≡ readCell (blank w) seen at (slice at (at + w) l)
+  -- the first byte of the stretch that is not as printed, from place `start` on
+  module _ (x w start : ℕ) (h : at + w ≤ length l) (t : skip x (slice at (at + w) l) ≡ slice start (at + w) l) where
+    pub as-printed : start ≡ at + w → ok nothing ≡ readCell (printed x w) seen at (slice at (at + w) l)
     unfolding readCell
-    gap-blank e = rw (t, part-none l start (at + w) (omega arith) (omega arith))
+    as-printed e = rw (t, part-none l start (at + w) (omega arith) (omega arith))
 
-    pub gap-other : at ≤ start → start < at + w → refusal notBlank (start + 1) ≡ readCell (blank w) seen at (slice at (at + w) l)
+    pub not-printed : at ≤ start → start < at + w → refusal notBlank (start + 1) ≡ readCell (printed x w) seen at (slice at (at + w) l)
     unfolding readCell
-    gap-other a b =
+    not-printed a b =
         let z : start + 1 ≡ at + 1 + (length (slice at (at + w) l) - length (slice start (at + w) l)) = omega (arith, length-slice at (at + w) l h, length-slice start (at + w) l h) in
         let u : isNone (slice start (at + w) l) ≡ false = rw (part-cons l start (at + w) b h) in
         rw (t, u, z)
@@ -116,9 +116,9 @@ module _ (c : Col) (seen : List Slot) (at : ℕ) (f : List ℕ) where
   unfolding readCell
   read-letter-is s e = rw e
 
-  pub read-gap-is : (w : ℕ) → c ≡ blank w → readCell (blank w) [] at f ≡ readCell c seen at f
+  pub read-printed-is : (b w : ℕ) → c ≡ printed b w → readCell (printed b w) [] at f ≡ readCell c seen at f
   unfolding readCell
-  read-gap-is w e = rw e
+  read-printed-is b w e = rw e
 
 -- what was found in a column of a width, as the column's own answer
 pub found-as : (a : Answer Rec) (c : Col) (seen : List Slot) (r : CellRead) (at w : ℕ) (l : List ℕ) → w ≡ width c → a ≡ readCell c seen at (slice at (at + w) l) → Found a r at w (slice at (at + w) l) → Found (readCell c seen at (slice at (at + width c) l)) r at (width c) (slice at (at + width c) l)

@@ -14,7 +14,7 @@ use Rattle.columns.specs.declared.number.Form.{Form}
 use Rattle.columns.specs.declared.number.Digits.{Digits}
 use Rattle.columns.specs.declared.number.Plain.{Plain}
 use Rattle.columns.specs.Answer.{pick}
-use Rattle.columns.specs.Bytes.{isDigit, trim}
+use Rattle.columns.specs.Bytes.{isDigit, trim, skip}
 use Rattle.columns.specs.Number.{digits, number, signedNumber, scan, fraction, intField, decField, intBytes, decBytes, digitsOf, holdsInt, holdsDec, formWidth, goodForm, fieldOf, holds, fieldBytes, zeroFilled, plainScan, Quick}
 use Rattle.columns.proofs.laws.Clear.{Clear, clear-int, clear-dec, clear-append, clear-mark, clear-digits}
 use Rattle.columns.proofs.laws.Written.{digits-length, power-le}
@@ -175,13 +175,13 @@ plain-some n (b ∷ s) e = some-case (isDigit b) _ (plain-some (n * 10 + (b - 48
 
 -- a field that begins with a digit is its number, one that begins with a blank is the rest of it
 digit-field : (b m : ℕ) (s : List ℕ) → isDigit b ≡ true → digits (0 * 10 + (b - 48)) s ≡ D.Number m → intField (b ∷ s) ≡ F.Value (pos m)
-unfolding intField scan trim signedNumber number digits
+unfolding intField scan skip signedNumber number digits
 digit-field b m s t e =
     let p = digit-bounds b t in
     rw (ne-eqb b 32 (λ q. omega (arith, p .0)), ne-eqb b 45 (λ q. omega (arith, p .0)), t, e)
 
 blank-field : (b : ℕ) (s : List ℕ) → eqb b 32 ≡ true → intField (b ∷ s) ≡ intField s
-unfolding intField scan trim
+unfolding intField scan skip
 blank-field b s t = rw t
 
 walk-blank : (b : ℕ) (s : List ℕ) (p : Plain) (t : Bool) → eqb b 32 ≡ t → plainScan false 0 s ≡ p → Quick p s → Quick (pick t p P.Other) (b ∷ s)
@@ -202,7 +202,7 @@ walk-case b s true l t q = walk-digit b s (plainScan true (0 * 10 + (b - 48)) s)
 walk-case b s false l t q = walk-blank b s (plainScan false 0 s) (eqb b 32) refl refl q
 
 pub plain-quick : (s : List ℕ) → length s ≤ 18 → Quick (plainScan false 0 s) s
-unfolding plainScan intField scan signedNumber trim
+unfolding plainScan intField scan signedNumber skip
 plain-quick [] l = refl
 plain-quick (b ∷ s) l = walk-case b s (isDigit b) (omega arith) refl (plain-quick s (omega arith))
 

@@ -15,7 +15,7 @@ use Rattle.columns.specs.declared.group.Three.{Three}
 use Rattle.columns.specs.declared.group.Part.{Part}
 use Rattle.columns.specs.declared.group.Group.{Group}
 use Rattle.columns.specs.Answer.{pick, ok, refusal, outOfRange, tooWide}
-use Rattle.columns.specs.Bytes.{trim, allBlank}
+use Rattle.columns.specs.Bytes.{trim, allBlank, skip}
 use Rattle.columns.specs.Number.{formWidth, goodForm, fieldOf, holds, zeroFilled}
 use Rattle.columns.specs.Column.{Slot, missing, given, Rec, allowed, partRange, firstWidth, secondStart, secondEnd, thirdStart, groupWidth, goodPart, goodGroup}
 use Rattle.columns.specs.Table.{placed}
@@ -90,7 +90,7 @@ module _ (g : Group) (x y z : ℕ) (h : T (goodGroup g)) where
       clear-append (zero-clear false (g .first .form) x) (clear-append m (clear-append (zero-clear false (g .second .form) y) (clear-append m (zero-clear false (g .third .form) z))))
 
   group-some : allBlank (groupBytes g x y z) ≡ false
-  unfolding trim
+  unfolding skip
   group-some =
       let f = zero-first (g .first .form) x (part-form (g .first) (fine g h .first)) in
       rw (f .is, ne-eqb (f .byte) 32 (λ q. omega (arith, f .low)))

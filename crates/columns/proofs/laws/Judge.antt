@@ -14,11 +14,11 @@ use Rattle.columns.specs.declared.number.Form.{Form}
 use Rattle.columns.specs.declared.column.Column.{Column}
 use Rattle.columns.specs.Answer.{pick, Answer, ok, refusal, isOk, both, chain, requiredBlank, outOfRange}
 use Rattle.columns.specs.Number.{intField, fieldOf}
-use Rattle.columns.specs.Column.{Slot, missing, given, slotIn, Rec, joined, lastDayAfter, Range, allowed, Rule, Col, numeric, text, letter, group, blank, width, goodCol, good, widths}
+use Rattle.columns.specs.Column.{Slot, missing, given, slotIn, Rec, joined, lastDayAfter, Range, allowed, Rule, Col, numeric, text, letter, group, printed, printed, width, goodCol, good, widths}
 use Rattle.columns.specs.Reading.{oneNumber, judge, ruleRefuses, ruleNumber, judgeText, asText, readCell, readColumns}
 use Rattle.columns.specs.Table.{columnIn, rangeAt, colOf, ruleAt, columnsOf}
 use Rattle.columns.specs.Judge.{simpleCol, looksBack, isDay, dateTo, simple, lastDayBefore, Judged, Judgeable}
-use Rattle.columns.proofs.laws.Table.{columns-more, columns-none, col-integer, col-decimal, col-text, col-letter, col-group, col-blank}
+use Rattle.columns.proofs.laws.Table.{columns-more, columns-none, col-integer, col-decimal, col-text, col-letter, col-group, col-printed}
 use Rattle.columns.proofs.laws.Bytes.{slice-is}
 use Rattle.columns.proofs.laws.Tests.{T-and, T-true, both-true}
 use Rattle.columns.proofs.laws.Form.{form-integer}
@@ -76,8 +76,8 @@ module _ (c : Column) (rs : List ℤ) (ls : List ℕ) (s : T (simpleCol (colOf c
   no-group : c .kind ≡ 4 → ⊥
   no-group e = rw (col-group c rs ls e) at s
 
-  no-blank : 5 ≤ c .kind → ⊥
-  no-blank e = rw (col-blank c rs ls e) at s
+  no-printed : 5 ≤ c .kind → ⊥
+  no-printed e = rw (col-printed c rs ls e) at s
 
   above : (k m : ℕ) → m ≤ k → (k ≡ m → ⊥) → m + 1 ≤ k
   above k m h d = omega arith
@@ -85,7 +85,7 @@ module _ (c : Column) (rs : List ℤ) (ls : List ℕ) (s : T (simpleCol (colOf c
   by-kind : (t : Bool) → eqb (c .kind) 2 ≡ t → c .kind ≡ 2
   by-kind true e = eqb-true _ _ e
   by-kind false e =
-      absurd (no-blank (above _ 4 (above _ 3 (above _ 2 (above _ 1 (above _ 0 (omega arith) n) no-decimal) (eqb-false _ _ e)) no-letter) no-group))
+      absurd (no-printed (above _ 4 (above _ 3 (above _ 2 (above _ 1 (above _ 0 (omega arith) n) no-decimal) (eqb-false _ _ e)) no-letter) no-group))
 
   pub simple-text : colOf c rs ls ≡ text (c .width) (ruleAt (c .last))
   simple-text = col-text c rs ls (by-kind _ refl)
@@ -171,7 +171,7 @@ date-next (numeric (N.Decimal k d) q g) n line at seen r e b = none line _ _
 date-next (text k u) n line at seen r e b = none line _ _
 date-next (letter s) n line at seen r e b = none line _ _
 date-next (group g) n line at seen r e b = none line _ _
-date-next (blank k) n line at seen r e b = none line _ _
+date-next (printed x k) n line at seen r e b = none line _ _
 
 -- ---- the turns of the loop
 

@@ -18,7 +18,7 @@ use borrow.Author.Tests.{eq-eqb, ne-eqb, leb-true}
 use Rattle.columns.specs.Answer.{pick}
 use Rattle.columns.specs.Bytes.{isDigit, isNone, trim}
 use Rattle.columns.specs.Number.{digits, number, scan, fraction, magnitude, withSign, signedNumber, value, intField, decField}
-use Rattle.columns.proofs.laws.Bytes.{part-cons, part-none, slice-take, slice-drop, trim-short}
+use Rattle.columns.proofs.laws.Bytes.{part-cons, part-none, slice-take, slice-drop, skip-short}
 use Rattle.columns.specs.declared.number.Digits.{Digits}
 use Rattle.columns.specs.declared.number.Scan.{Scan}
 use Rattle.columns.proofs.laws.Tests.{both-true}
@@ -165,7 +165,7 @@ signed-below (x ∷ s) k h = pick-below (eqb x 45) _ _ (10 ^ k) (number-below tr
 
 pub scan-below : (f : List ℕ) (k : ℕ) → length f ≤ k → magnitude (scan f) < 10 ^ k
 unfolding scan
-scan-below f k h = signed-below (trim f) k (omega (arith, trim-short f))
+scan-below f k h = signed-below (trim f) k (omega (arith, skip-short 32 f))
 
 pub fraction-below : (w : Scan) (s : List ℕ) (m : ℕ) → (magnitude w + 1) * 10 ^ (length s - 1) ≤ m → magnitude (fraction w s) < m
 unfolding fraction

@@ -15,7 +15,7 @@ use borrow.Author.Tests.{ne-eqb, le-leb, ltb-true, leb-true, leb-false, le-ltb}
 use Rattle.columns.specs.declared.number.Digits.{Digits}
 use Rattle.columns.specs.declared.written.Pen.{Pen}
 use Rattle.columns.specs.Answer.{pick}
-use Rattle.columns.specs.Bytes.{isDigit, trim}
+use Rattle.columns.specs.Bytes.{isDigit, trim, skip}
 use Rattle.columns.specs.Number.{digits, number, signedNumber, scan, fraction, signed, value, withSign, intField, decField, digitsOf, plainDigits, minusOf, rightAligned, isNeg, intBytes, holdsInt, holdsDec, decBytes, back}
 use Rattle.columns.proofs.laws.Written.{power-pos, digits-length, back-length}
 use Rattle.columns.specs.declared.number.Scan.the-variants as S
@@ -71,7 +71,7 @@ unfolding number
 first-number s f = rw (f .is)
 
 first-scan : (s : List ℕ) → First s → scan s ≡ withSign false (number s)
-unfolding scan trim signedNumber
+unfolding scan skip signedNumber
 first-scan s f =
     let p : f .byte ≡ 32 → ⊥ = λ e. omega (arith, f .low) in
     let q : f .byte ≡ 45 → ⊥ = λ e. omega (arith, f .low) in
@@ -84,7 +84,7 @@ digits-scan w n h =
     first-scan _ f ∙ ap (withSign false) (first-number _ f ∙ digits-written (suc w) n 0 h ∙ ap D.Number z)
 
 minus-scan : (s : List ℕ) → scan (45 ∷ s) ≡ withSign true (number s)
-unfolding scan trim signedNumber
+unfolding scan skip signedNumber
 minus-scan s = refl
 
 -- ---- an integer field
@@ -135,7 +135,7 @@ digit-cons m k t h =
     rw (le-leb _ _ p, le-leb _ _ q, e)
 
 blanks-trim : (w n : ℕ) (t : List ℕ) → trim (back w (record { more = false; minus = false; left = n }) ++ t) ≡ trim t
-unfolding back trim
+unfolding back skip
 blanks-trim zero n t = refl
 blanks-trim (suc w) n t = rw append-assoc (blanks-trim w (n / 10) (32 ∷ t))
 
@@ -280,18 +280,18 @@ module _ (w d : ℕ) (v : ℤ) (h : d + 3 ≤ w) (e : holdsDec w v ≡ true) whe
 -- ---- blank fields
 
 pub trim-blanks : (w : ℕ) → trim (replicate w 32) ≡ []
-unfolding trim
+unfolding skip
 trim-blanks zero = refl
 trim-blanks (suc w) = trim-blanks w
 
 trim-take : (k w : ℕ) → trim (take k (replicate w 32)) ≡ []
-unfolding trim
+unfolding skip
 trim-take zero w = refl
 trim-take (suc k) zero = refl
 trim-take (suc k) (suc w) = trim-take k w
 
 trim-drop : (k w : ℕ) → trim (drop k (replicate w 32)) ≡ []
-unfolding trim
+unfolding skip
 trim-drop zero w = trim-blanks w
 trim-drop (suc k) zero = refl
 trim-drop (suc k) (suc w) = trim-drop k w

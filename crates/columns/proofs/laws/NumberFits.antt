@@ -20,7 +20,7 @@ use Rattle.columns.specs.Number.{digits, number, withSign, signedNumber,
 use Rattle.columns.proofs.laws.Number.{digits-bound}
 use Rattle.columns.proofs.laws.Written.{power-pos}
 use Rattle.columns.proofs.laws.NumberBack.{signPlaces}
-use Rattle.columns.proofs.laws.Bytes.{trim-short}
+use Rattle.columns.proofs.laws.Bytes.{skip-short}
 use Rattle.columns.specs.declared.number.Field.the-variants as F
 use Rattle.columns.specs.declared.number.Scan.the-variants as S
 use Rattle.columns.specs.declared.number.Digits.the-variants as D
@@ -54,7 +54,7 @@ power-mono a b n h k = omega (arith, pow-le-pow-right {n = 10} (lit< tt) {i = a}
 
 scan-fits : (f : List ℕ) (m : Bool) (n : ℕ) → scan f ≡ S.Number m n → n < 10 ^ (length f - signPlaces m)
 unfolding scan
-scan-fits f m n e = power-mono (length (trim f) - signPlaces m) (length f - signPlaces m) n (omega (arith, trim-short f)) (signed-fits (trim f) m n e)
+scan-fits f m n e = power-mono (length (trim f) - signPlaces m) (length f - signPlaces m) n (omega (arith, skip-short 32 f)) (signed-fits (trim f) m n e)
 
 record Number (x : Scan) (v : ℤ) : Type 0 where
   minus : Bool

@@ -14,9 +14,9 @@ use Rattle.columns.specs.declared.group.Group.{Group}
 use Rattle.columns.specs.declared.cursor.Cell.{Cell}
 use Rattle.columns.specs.declared.column.Column.{Column}
 use Rattle.columns.specs.Answer.{Answer, ok, refusal, both, notBlank, requiredBlank, outOfRange, wrongLetter}
-use Rattle.columns.specs.Bytes.{isNone, trim, member}
+use Rattle.columns.specs.Bytes.{isNone, skip, member}
 use Rattle.columns.specs.Number.{fieldOf}
-use Rattle.columns.specs.Column.{Slot, missing, given, Rec, joined, allowed, Col, numeric, text, letter, group, blank, width, slots, texts}
+use Rattle.columns.specs.Column.{Slot, missing, given, Rec, joined, allowed, Col, numeric, text, letter, group, printed, width, slots, texts}
 use Rattle.columns.specs.Group.{groupRange, groupRec, groupField, judgeGroup}
 use Rattle.columns.specs.Reading.{nothing, oneNumber, someText, judge, readCell, readColumns, readPart}
 use Rattle.columns.specs.Table.{columnIn, colOf, columnsOf, slotsOf, flagsOf, valuesOf, over, outcomeOf, ReadPart, Table, placed}
@@ -59,8 +59,8 @@ cell-sizes (text w x) seen at f r l e = text-sizes f w r l (text-read x at f r e
 cell-sizes (letter s) seen at f r l e =
     text-sizes f 1 r l (cc (held (member (getD f 0 0) s) wrongLetter (at + 1) (ok (someText f)) r e .1))
 cell-sizes (group g) seen at f r l e = group-sizes g seen at (groupField g f) r e
-cell-sizes (blank w) seen at f r l e =
-    let d : nothing ≡ r = cc (held (isNone (trim f)) notBlank (at + 1 + (length f - length (trim f))) (ok nothing) r e .1) in
+cell-sizes (printed b w) seen at f r l e =
+    let d : nothing ≡ r = cc (held (isNone (skip b f)) notBlank (at + 1 + (length f - length (skip b f))) (ok nothing) r e .1) in
     rw (← d) (refl, refl)
 
 -- ---- what the cursor found, as an answer

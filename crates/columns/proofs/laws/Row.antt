@@ -10,19 +10,19 @@ use lib.ListN.{length, take, drop, getD, replicate, length-drop, length-replicat
 use lib.Seq.{length-take-le, drop-cons, drop-drop, getD-take, take-at, drop-at}
 use lib.Dec.{T, leb, ltb, eqb, leb→le}
 use borrow.Author.Tests.{ltb-true, ltb-false, le-ltb, eq-eqb, ne-eqb}
-use Rattle.columns.specs.Answer.{pick, ok, refusal, requiredBlank, badForm, outOfRange, tooWide, tooShort}
+use Rattle.columns.specs.Answer.{pick, ok, refusal, notBlank, requiredBlank, badForm, outOfRange, tooWide, tooShort}
 use Rattle.columns.specs.declared.number.Form.{Form}
 use Rattle.columns.specs.declared.group.Group.{Group}
-use Rattle.columns.specs.Bytes.{allBlank}
+use Rattle.columns.specs.Bytes.{skip, allBlank}
 use Rattle.columns.specs.Number.{formWidth, goodForm, fieldOf, holds, holdsInt, holdsDec, fieldBytes}
-use Rattle.columns.specs.Column.{Slot, missing, given, Rec, joined, allowed, Rule, anyText, noBrackets, notBlankFirst, notAllBlank, blankOrFilled, Col, numeric, text, letter, group, blank, width, slots, texts, goodGroup, goodCol, good, widths, allSlots}
+use Rattle.columns.specs.Column.{Slot, missing, given, Rec, joined, allowed, Rule, anyText, noBrackets, notBlankFirst, notAllBlank, blankOrFilled, Col, numeric, text, letter, group, blank, printed, width, slots, texts, goodGroup, goodCol, good, widths, allSlots}
 use Rattle.columns.specs.Group.{groupHolds, groupRange, groupBytes, putGroup}
-use Rattle.columns.specs.Reading.{judge, ruleRefuses, ruleNumber, judgeText, asText, readCell, readColumns}
+use Rattle.columns.specs.Reading.{judge, judgePrinted, ruleRefuses, ruleNumber, judgeText, asText, readCell, readColumns}
 use Rattle.columns.specs.Writing.{putNumber, writeCell, writeColumns, writeLine}
 use Rattle.columns.specs.Table.{flagsOf, columnIn, colOf, columnsOf, sizesOf, sound, slotsBy}
 use Rattle.columns.specs.declared.column.Column.{Column}
 use Rattle.columns.specs.Row.{allSame, alike, whole, writeWhole, SmallSlot, SmallSlots, opensText, opens, opensRow, fillsText, fills, someFilled, fits, Fits}
-use Rattle.columns.proofs.laws.Tests.{T-and, both-true, not-not}
+use Rattle.columns.proofs.laws.Tests.{T-and, T-true, both-true, not-not}
 use Rattle.columns.proofs.laws.Answers.{split, chained, passed, held}
 use Rattle.columns.proofs.laws.GroupBack.{three-of, fine, part-form}
 use Rattle.columns.proofs.laws.Form.{form-blank, good-int, good-dec}
@@ -103,7 +103,7 @@ cell-kept (numeric m q g) seen at ns t ys o n e = one-kept ns n (number-small m 
 cell-kept (text w x) seen at ns t ys o n e = none-kept ns n
 cell-kept (letter s) seen at ns t ys o n e = none-kept ns n
 cell-kept (group g) seen at ns t ys o n e = rw (three-of ns missing n) (group-kept g seen at (getD ns 0 missing) (getD ns 1 missing) (getD ns 2 missing) ys o e)
-cell-kept (blank w) seen at ns t ys o n e = none-kept ns n
+cell-kept (printed b w) seen at ns t ys o n e = none-kept ns n
 
 small-append : (a b : List Slot) → SmallSlots a → SmallSlots b → SmallSlots (a ++ b)
 small-append [] b p q = q
@@ -144,6 +144,9 @@ written-whole (c ∷ cs) seen at ns t ys g n e =
 
 -- ---- a line that is read is no comment: it does not begin with a blank and `(`
 
+no-answer : {A : Type 0} (n k : ℕ) (x : A) → refusal n k ≡ ok x → ⊥
+no-answer n k x e = let z : _≡_ {A = ℕ} 0 1 = cc in omega arith
+
 module _ (x : Rule) (at w : ℕ) (line : List ℕ) (r : Rec) (h : 1 ≤ w) (e : asText (judgeText x at (take w line) (ok (take w line))) ≡ ok r) where
   -- what its rule says of a text that was read
   ruled : ruleRefuses x (take w line) ≡ false
@@ -163,13 +166,26 @@ text-opened blankOrFilled at w line r h o e p q =
     let z : not (allBlank (take w line)) ≡ false = rw (first-byte blankOrFilled at w line r h e p) at (ruled blankOrFilled at w line r h e) in
     blanks-only (take w line) 1 40 (omega arith) (not-not (allBlank (take w line)) z) (getD-take w line 1 0 (leb→le 2 w o) ∙ q)
 
+-- a printed byte above the blank is none, so nothing that begins with a blank is as printed
+not-blank-printed : (b at : ℕ) (f : List ℕ) (r : Rec) → 32 < b → judgePrinted b at f ≡ ok r → getD f 0 0 ≡ 32 → ⊥
+unfolding skip
+not-blank-printed b at [] r h e p = omega arith
+not-blank-printed b at (x ∷ s) r h e p =
+    let n : eqb x b ≡ false = ne-eqb x b (λ z. omega arith) in
+    no-answer notBlank _ r (rw n at e)
+
+printed-opens : (b w : ℕ) (line : List ℕ) (r : Rec) (at : ℕ) → T (leb 1 w && ltb 32 b) → judgePrinted b at (take w line) ≡ ok r → getD line 0 0 ≡ 32 → ⊥
+printed-opens b w line r at o e p =
+    let t = T-and (leb 1 w) (ltb 32 b) o in
+    not-blank-printed b at (take w line) r (ltb-true 32 b (T-true _ (t .1))) e (getD-take w line 0 0 (leb→le 1 w (t .0)) ∙ p)
+
 cell-opened : (c : Col) (seen : List Slot) (at : ℕ) (line : List ℕ) (r : Rec) → T (goodCol c) → T (opens c) → readCell c seen at (take (width c) line) ≡ ok r → getD line 0 0 ≡ 32 → getD line 1 0 ≡ 40 → ⊥
 unfolding readCell
 cell-opened (text w x) seen at line r g o e = text-opened x at w line r (leb→le 1 w g) o e
 cell-opened (numeric m q g) seen at line r f o e = absurd o
 cell-opened (letter s) seen at line r g o e = absurd o
 cell-opened (group g) seen at line r f o e = absurd o
-cell-opened (blank w) seen at line r g o e = absurd o
+cell-opened (printed b w) seen at line r g o e = λ p q. printed-opens b w line r at o e p
 
 pub read-opened : (cs : List Col) (seen : List Slot) (at : ℕ) (line : List ℕ) (r : Rec) → T (good cs) → T (opensRow cs) → readColumns cs seen at line ≡ ok r → getD line 0 0 ≡ 32 → getD line 1 0 ≡ 40 → ⊥
 unfolding good readColumns
@@ -179,9 +195,6 @@ read-opened (c ∷ cs) seen at line r g o e =
     cell-opened c seen at line (s .a) (T-and (goodCol c) (good cs) g .0) o (s .first)
 
 -- ---- a line that is read is not blank
-
-no-answer : {A : Type 0} (n k : ℕ) (x : A) → refusal n k ≡ ok x → ⊥
-no-answer n k x e = let z : _≡_ {A = ℕ} 0 1 = cc in omega arith
 
 blank-required : (m : Form) (fit : ℤ → Bool) (at : ℕ) (q : Bool) (r : Rec) → T q → judge q fit at (fieldOf m (replicate (formWidth m) 32)) ≡ ok r → ⊥
 blank-required m fit at true r t e = no-answer requiredBlank (at + 1) r (rw (form-blank m) at e)
@@ -200,7 +213,9 @@ cell-fills (numeric m q g) seen at r o f e = blank-required m (allowed g seen) a
 cell-fills (text w x) seen at r o f e = no-answer (ruleNumber x) (at + 1) r (rw (blank-refused x w (leb→le 1 w o) f) at e)
 cell-fills (letter s) seen at r o f e = absurd f
 cell-fills (group g) seen at r o f e = absurd f
-cell-fills (blank w) seen at r o f e = absurd f
+cell-fills (printed b w) seen at r o f e =
+    let t = T-and (leb 1 w) (ltb 32 b) f in
+    not-blank-printed b at (replicate w 32) r (ltb-true 32 b (T-true _ (t .1))) e (getD-replicate {A = ℕ} w 0 32 0 (leb→le 1 w (t .0)))
 
 -- a column that is read blank is not the one
 rest-filled : (c : Col) (cs : List Col) (seen : List Slot) (at : ℕ) (f : List ℕ) (r : Rec) → T (goodCol c) → T (pick (fills c) true (someFilled cs)) → f ≡ replicate (width c) 32 → readCell c seen at f ≡ ok r → T (someFilled cs)
@@ -335,7 +350,7 @@ column-wide (text w x) g f = leb→le 1 w g
 column-wide (numeric m q r) g f = absurd f
 column-wide (letter s) g f = absurd f
 column-wide (group g) o f = absurd f
-column-wide (blank w) g f = absurd f
+column-wide (printed b w) g f = leb→le 1 w (T-and (leb 1 w) (ltb 32 b) f .0)
 
 pub row-wide : (cs : List Col) → T (good cs) → T (opensRow cs) → 1 ≤ widths cs
 unfolding good widths

@@ -9,7 +9,7 @@ use lib.Seq.{slice, length-slice}
 use lib.Dec.{eqb}
 use borrow.Author.Tests.{ne-eqb, eq-eqb}
 use Rattle.columns.specs.Answer.{pick, requiredBlank, badForm}
-use Rattle.columns.specs.Bytes.{trim, allBlank}
+use Rattle.columns.specs.Bytes.{trim, allBlank, skip}
 use Rattle.columns.specs.Column.{notBlankFirst, notAllBlank, blankOrFilled, ruleBars}
 use Rattle.columns.specs.Reading.{ruleRefuses, ruleNumber}
 use Rattle.columns.specs.Table.{ruleAt}
@@ -26,7 +26,7 @@ blank-test l from start to t h k = elim (tri start to) [
 ]
 
 some-filled : (f : List ℕ) → 1 ≤ length f → (getD f 0 0 ≡ 32 → ⊥) → allBlank f ≡ false
-unfolding trim
+unfolding skip
 some-filled [] h n = absurd (omega arith)
 some-filled (b ∷ s) h n = rw (ne-eqb b 32 n)
 

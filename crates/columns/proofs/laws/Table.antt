@@ -14,7 +14,7 @@ use Rattle.columns.specs.declared.number.Form.{Form}
 use Rattle.columns.specs.declared.group.Group.{Group}
 use Rattle.columns.specs.Answer.{pick}
 use Rattle.columns.specs.Number.{formWidth, goodForm}
-use Rattle.columns.specs.Column.{Slot, missing, given, Range, Rule, clockTime, calendarDate, Col, numeric, text, letter, group, blank, width, slots, texts, goodGroup, goodCol, good, widths, allSlots, allTexts, inStretch, bracketsIn}
+use Rattle.columns.specs.Column.{Slot, missing, given, Range, Rule, clockTime, calendarDate, Col, numeric, text, letter, group, printed, width, slots, texts, goodGroup, goodCol, good, widths, allSlots, allTexts, inStretch, bracketsIn}
 use Rattle.columns.specs.Table.{columnIn, rangeAt, ruleAt, groupAt, formIn, colOf, columnsOf, sizesOf, sound, Sound, widthBy, slotsBy, textsBy, slotOf, slotsOf, flagOf, valueOf, flagsOf, valuesOf, over, Table}
 use Rattle.columns.proofs.laws.Tests.{T-and, and-T}
 use Rattle.columns.specs.declared.number.Form.the-variants as N
@@ -44,8 +44,8 @@ module _ (c : Column) (rs : List ℤ) (ls : List ℕ) where
   pub col-group : c .kind ≡ 4 → colOf c rs ls ≡ group (groupAt (c .last))
   col-group e = rw e
 
-  pub col-blank : 5 ≤ c .kind → colOf c rs ls ≡ blank (c .width)
-  col-blank h =
+  pub col-printed : 5 ≤ c .kind → colOf c rs ls ≡ printed (c .last) (c .width)
+  col-printed h =
       let a : 2 ≤ c .kind = omega arith in
       rw (le-ltb _ _ a, ne-eqb (c .kind) 2 (λ e. omega arith), ne-eqb (c .kind) 3 (λ e. omega arith), ne-eqb (c .kind) 4 (λ e. omega arith))
 
@@ -77,7 +77,7 @@ pub data Kind (k : ℕ) : Type 0 where
   is-text : k ≡ 2 → Kind k
   is-letter : k ≡ 3 → Kind k
   is-group : k ≡ 4 → Kind k
-  is-blank : 5 ≤ k → Kind k
+  is-printed : 5 ≤ k → Kind k
 
 pub kind-of : (k : ℕ) → Kind k
 kind-of zero = is-number (omega arith)
@@ -85,7 +85,7 @@ kind-of (suc zero) = is-number (omega arith)
 kind-of (suc (suc zero)) = is-text refl
 kind-of (suc (suc (suc zero))) = is-letter refl
 kind-of (suc (suc (suc (suc zero)))) = is-group refl
-kind-of (suc (suc (suc (suc (suc k))))) = is-blank (omega arith)
+kind-of (suc (suc (suc (suc (suc k))))) = is-printed (omega arith)
 
 -- ---- what a column takes, as the code counts it
 
@@ -108,13 +108,13 @@ sizes-by c rs ls (is-number k) =
 sizes-by c rs ls (is-text k) = record { wide = rw (col-text c rs ls k, k); numbers = rw (col-text c rs ls k, k); chars = rw (col-text c rs ls k, k) }
 sizes-by c rs ls (is-letter k) = record { wide = rw (col-letter c rs ls k, k); numbers = rw (col-letter c rs ls k, k); chars = rw (col-letter c rs ls k, k) }
 sizes-by c rs ls (is-group k) = record { wide = rw (col-group c rs ls k, k); numbers = rw (col-group c rs ls k, k); chars = rw (col-group c rs ls k, k) }
-sizes-by c rs ls (is-blank k) =
+sizes-by c rs ls (is-printed k) =
     let a : 2 ≤ c .kind = omega arith in
     let b : 4 ≤ c .kind = omega arith in
     record {
-      wide = rw (col-blank c rs ls k, ne-eqb (c .kind) 3 (λ e. omega arith), ne-eqb (c .kind) 4 (λ e. omega arith));
-      numbers = rw (col-blank c rs ls k, le-ltb _ _ a, ne-eqb (c .kind) 4 (λ e. omega arith));
-      chars = rw (col-blank c rs ls k, le-ltb _ _ a, le-ltb _ _ b);
+      wide = rw (col-printed c rs ls k, ne-eqb (c .kind) 3 (λ e. omega arith), ne-eqb (c .kind) 4 (λ e. omega arith));
+      numbers = rw (col-printed c rs ls k, le-ltb _ _ a, ne-eqb (c .kind) 4 (λ e. omega arith));
+      chars = rw (col-printed c rs ls k, le-ltb _ _ a, le-ltb _ _ b);
     }
 
 pub sizes : (c : Column) (rs : List ℤ) (ls : List ℕ) → Sizes c rs ls
@@ -129,7 +129,7 @@ char-by c rs ls g h (is-number k) = let y : ⊥ = omega arith in absurd y
 char-by c rs ls g h (is-text k) = (col-text c rs ls k ∙ sym (col-text c [] ls k), (rw (col-text c rs ls k), rw (col-text c rs ls k)))
 char-by c rs ls g h (is-letter k) = (col-letter c rs ls k ∙ sym (col-letter c [] ls k), (rw (col-letter c rs ls k), rw (col-letter c rs ls k)))
 char-by c rs ls g h (is-group k) = let y : ⊥ = omega arith in absurd y
-char-by c rs ls g h (is-blank k) = let y : ⊥ = omega arith in absurd y
+char-by c rs ls g h (is-printed k) = let y : ⊥ = omega arith in absurd y
 
 pub char-col : (c : Column) (rs : List ℤ) (ls : List ℕ) → 2 ≤ c .kind → c .kind < 4 → (colOf c rs ls ≡ colOf c [] ls) × ((slots (colOf c rs ls) ≡ 0) × (texts (colOf c rs ls) ≡ width (colOf c rs ls)))
 char-col c rs ls g h = char-by c rs ls g h (kind-of (c .kind))

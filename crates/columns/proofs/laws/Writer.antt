@@ -15,12 +15,12 @@ use Rattle.columns.specs.declared.column.Column.{Column}
 use Rattle.columns.specs.declared.number.Form.{Form}
 use Rattle.columns.specs.Answer.{pick, Answer, ok, refusal, both, wrongLetter, tooShort}
 use Rattle.columns.specs.Bytes.{member}
-use Rattle.columns.specs.Column.{Slot, missing, Range, allowed, Rule, ruleBars, Col, numeric, text, letter, blank, width, slots, texts, good, widths, allSlots, allTexts}
+use Rattle.columns.specs.Column.{Slot, missing, Range, allowed, Rule, ruleBars, Col, numeric, text, letter, printed, printed, width, slots, texts, good, widths, allSlots, allTexts}
 use Rattle.columns.specs.Group.{putGroup}
 use Rattle.columns.specs.Reading.{ruleRefuses, ruleNumber, judgeText}
 use Rattle.columns.specs.Writing.{putNumber, putText, writeCell, writeColumns, writeLine, writePart}
 use Rattle.columns.specs.Table.{columnIn, ruleAt, groupAt, colOf, columnsOf, over, outcomeOf, Wrote, WrotePart, Ready, Table, placed}
-use Rattle.columns.proofs.laws.Table.{Kind, kind-of, is-number, is-text, is-letter, is-group, is-blank, col-text, col-letter, col-group, col-blank, number-col, char-col, columns-more, columns-none, table-good, table-fits, table-low, table-numbers, table-chars, table-line, table-next}
+use Rattle.columns.proofs.laws.Table.{Kind, kind-of, is-number, is-text, is-letter, is-group, is-printed, col-text, col-letter, col-group, col-printed, number-col, char-col, columns-more, columns-none, table-good, table-fits, table-low, table-numbers, table-chars, table-line, table-next}
 use Rattle.columns.proofs.laws.Answers.{split, over-whole, refused-of, done-of, wrote-refused, wrote-same, wrote-bytes, wrote-whole}
 use Rattle.columns.proofs.laws.Places.{placed-none, placed-length, placed-placed, placed-take, part-placed}
 use Rattle.columns.proofs.laws.Rules.{rule-bars}
@@ -42,9 +42,9 @@ module _ (seen : List Slot) (at : ℕ) (ns : List Slot) (t : List ℕ) (c : Col)
   unfolding writeCell
   cell-letter s e = rw e
 
-  cell-blank : (w : ℕ) → c ≡ blank w → ok (replicate w 32) ≡ writeCell c seen at ns t
+  cell-printed : (b w : ℕ) → c ≡ printed b w → ok (replicate w b) ≡ writeCell c seen at ns t
   unfolding writeCell
-  cell-blank w e = rw e
+  cell-printed b w e = rw e
 
 -- text by the number of its rule, as the code comes to it
 module _ (k at n : ℕ) (t : List ℕ) (told : Bool) (g : told ≡ ruleRefuses (ruleAt k) (slice 0 n t)) (h : n ≡ length t) where
@@ -65,7 +65,7 @@ blind c rs ls a b at ns t h l (is-number k) = let y : ⊥ = omega arith in absur
 blind c rs ls a b at ns t h l (is-text k) = rw (col-text c rs ls k)
 blind c rs ls a b at ns t h l (is-letter k) = rw (col-letter c rs ls k)
 blind c rs ls a b at ns t h l (is-group k) = let y : ⊥ = omega arith in absurd y
-blind c rs ls a b at ns t h l (is-blank k) = let y : ⊥ = omega arith in absurd y
+blind c rs ls a b at ns t h l (is-printed k) = let y : ⊥ = omega arith in absurd y
 
 take-one : (S : List Slot) (k : ℕ) → k < length S → take 1 (drop k S) ≡ getD S k missing ∷ []
 take-one S k h = rw (drop-cons S k missing h)
@@ -90,8 +90,8 @@ module _ (c : Column) (rs : List ℤ) (ls : List ℕ) (at k t : ℕ) (S : List S
       let d : getD (take 3 (drop k S)) 2 missing ≡ getD S (k + 2) missing = getD-take 3 (drop k S) 2 missing (omega arith) ∙ getD-drop k S 2 missing in
       rw (col-group c rs ls h, a, b, d)
 
-  pub at-blank : 5 ≤ c .kind → ok (replicate (c .width) 32) ≡ writeCell (colOf c rs ls) (take k S) at (take (slots (colOf c rs ls)) (drop k S)) (take (texts (colOf c rs ls)) (drop t chs))
-  at-blank h = cell-blank (take k S) at _ _ (colOf c rs ls) (c .width) (col-blank c rs ls h)
+  pub at-printed : 5 ≤ c .kind → ok (replicate (c .width) (c .last)) ≡ writeCell (colOf c rs ls) (take k S) at (take (slots (colOf c rs ls)) (drop k S)) (take (texts (colOf c rs ls)) (drop t chs))
+  at-printed h = cell-printed (take k S) at _ _ (colOf c rs ls) (c .last) (c .width) (col-printed c rs ls h)
 
 -- ---- lines in two parts
 
@@ -208,14 +208,14 @@ module _ {cs : List Col} {start : ℕ} {S : List Slot} {chs out₀ : List ℕ} {
           turn-wrote at₁ k₁ t₁ ea ek et (d .value) (v .size) (d .is)
           (wrote-bytes s (d .value) (d .is) ∙ over-whole (d .value) (midOf at (at + w - at) out) (omega (arith, v .size, turn-mid)))
 
--- a stretch of blanks takes nothing of the record
-pub turn-blank : (c : Column) (rs : List ℤ) (ls : List ℕ) {cs : List Col} {start : ℕ} {S : List Slot} {chs out₀ : List ℕ} {nv : ℕ} {rest : List Col} {at k t : ℕ} {out mid : List ℕ} → Going cs start S chs out₀ nv (colOf c rs ls ∷ rest) at k t out → (w : ℕ) → w ≡ width (colOf c rs ls) → 5 ≤ c .kind → mid ≡ replicate (length (midOf at (at + w - at) out)) 32 → Going cs start S chs out₀ nv rest (at + w) k t (putMid at (at + w - at) out mid)
-turn-blank c rs ls {S = S} {chs = chs} {at = at} {k = k} {t = t} g w q h b =
-    let e = col-blank c rs ls h in
+-- a printed byte takes nothing of the record
+pub turn-printed : (c : Column) (rs : List ℤ) (ls : List ℕ) {cs : List Col} {start : ℕ} {S : List Slot} {chs out₀ : List ℕ} {nv : ℕ} {rest : List Col} {at k t : ℕ} {out mid : List ℕ} → Going cs start S chs out₀ nv (colOf c rs ls ∷ rest) at k t out → (w : ℕ) → w ≡ width (colOf c rs ls) → 5 ≤ c .kind → mid ≡ replicate (length (midOf at (at + w - at) out)) (c .last) → Going cs start S chs out₀ nv rest (at + w) k t (putMid at (at + w - at) out mid)
+turn-printed c rs ls {S = S} {chs = chs} {at = at} {k = k} {t = t} g w q h b =
+    let e = col-printed c rs ls h in
     let z : width (colOf c rs ls) ≡ c .width = rw e in
     let no : slots (colOf c rs ls) ≡ 0 = rw e in
     let none : texts (colOf c rs ls) ≡ 0 = rw e in
-    turn-wrote g w q (at + w) k t (omega (arith, q)) (omega (arith, no)) (omega (arith, none)) (replicate (c .width) 32) (length-replicate (c .width) 32 ∙ sym z) (sym (at-blank c rs ls at k t S chs h)) (b ∙ ap (λ (m : ℕ). replicate m 32) (turn-mid g w q ∙ q ∙ z))
+    turn-wrote g w q (at + w) k t (omega (arith, q)) (omega (arith, no)) (omega (arith, none)) (replicate (c .width) (c .last)) (length-replicate (c .width) (c .last) ∙ sym z) (sym (at-printed c rs ls at k t S chs h)) (b ∙ ap (λ (m : ℕ). replicate m (c .last)) (turn-mid g w q ∙ q ∙ z))
 
 module _ (s : List ℕ) (r : List ℤ) (ls : List ℕ) (i n : ℕ) {cs : List Col} {start : ℕ} {S : List Slot} {chs out₀ : List ℕ} {nv : ℕ} {at k t : ℕ} {out : List ℕ} where
   -- the next row of the table

@@ -5,7 +5,7 @@ use Prim.Native.Nat.{ℕ, _≤_, _-_, _+_}
 use lib.ListN.{length}
 use Rattle.columns.specs.Table.{columnsOf, slotsOf}
 use Rattle.columns.proofs.laws.Table.{sizes, slots-length, table-low, table-k, table-t}
-use Rattle.columns.proofs.laws.Writer.{Going, going-start, going-row, going-last, going-end, out-size, turn-fits, turn-ready, turn-refused, turn-done, turn-blank}
+use Rattle.columns.proofs.laws.Writer.{Going, going-start, going-row, going-last, going-end, out-size, turn-fits, turn-ready, turn-refused, turn-done, turn-printed}
 use Rattle.columns.specs.declared.column.Column.{Column}
 use borrow.Rule.Slice.PartMut.{same-len-mid}
 use Rattle.columns.proofs.writer.put_columns.Statement.{statement}
@@ -36,8 +36,8 @@ add-end c =
     let g = going-row (a .rows .now) (a .ranges .now) (a .letters .now) (l .i) (a .first + a .n) (x .result) (c .before .before .before .loop-test .taken) (x .ensures .0) (l .inv .2) in
     omega (arith, table-low (g .ready) (c .width-in .result) (c .width-in .ensures ∙ sym (w .wide)))
 
-part-blanks-end : tie.Need-part-blanks-end Inv-loop μ-loop
-part-blanks-end c =
+part-fill-end : tie.Need-part-fill-end Inv-loop μ-loop
+part-fill-end c =
     let a = c .before .before .before .before .before .before .before .before .before .before .before .args in
     let l = c .before .before .before .before .before .loop in
     let x = c .before .before .column-in in
@@ -46,16 +46,16 @@ part-blanks-end c =
     turn-fits g (c .before .width-in .result) (c .before .width-in .ensures ∙ sym (w .wide))
 
 add-i : tie.Need-add-i Inv-loop μ-loop
-add-i c = omega (arith, c .before .before .before .before .before .before .before .before .loop-test .taken, c .before .before .before .before .before .before .before .before .before .before .before .before .before .before .before .pre .0, c .before .before .before .before .before .before .before .before .before .before .before .before .before .before .before .good)
+add-i c = omega (arith, c .before .before .before .before .before .before .before .before .before .loop-test .taken, c .before .before .before .before .before .before .before .before .before .before .before .before .before .before .before .before .pre .0, c .before .before .before .before .before .before .before .before .before .before .before .before .before .before .before .before .good)
 
 loop-again : tie.Need-loop-again Inv-loop μ-loop
 loop-again c =
-    let a = c .before .before .before .before .before .before .before .before .before .before .before .before .before .before .before .args in
-    let l = c .before .before .before .before .before .before .before .before .before .loop in
-    let x = c .before .before .before .before .before .before .column-in in
+    let a = c .before .before .before .before .before .before .before .before .before .before .before .before .before .before .before .before .args in
+    let l = c .before .before .before .before .before .before .before .before .before .before .loop in
+    let x = c .before .before .before .before .before .before .before .column-in in
     let w = sizes (x .result) (a .ranges .now) (a .letters .now) in
-    let g = going-row (a .rows .now) (a .ranges .now) (a .letters .now) (l .i) (a .first + a .n) (x .result) (c .before .before .before .before .before .before .before .before .loop-test .taken) (x .ensures .0) (l .inv .2) in
-    (search needs, omega (arith, c .before .before .before .before .before .before .before .before .loop-test .taken), turn-blank (x .result) (a .ranges .now) (a .letters .now) g (c .before .before .before .before .before .width-in .result) (c .before .before .before .before .before .width-in .ensures ∙ sym (w .wide)) (omega (arith, ap (λ (q : Column). q .kind) (x .ensures .0), c .before .before .before .before .if1 .taken)) (c .before .before .blanks .ensures))
+    let g = going-row (a .rows .now) (a .ranges .now) (a .letters .now) (l .i) (a .first + a .n) (x .result) (c .before .before .before .before .before .before .before .before .before .loop-test .taken) (x .ensures .0) (l .inv .2) in
+    (search needs, omega (arith, c .before .before .before .before .before .before .before .before .before .loop-test .taken), turn-printed (x .result) (a .ranges .now) (a .letters .now) g (c .before .before .before .before .before .before .width-in .result) (c .before .before .before .before .before .before .width-in .ensures ∙ sym (w .wide)) (omega (arith, ap (λ (q : Column). q .kind) (x .ensures .0), c .before .before .before .before .before .if1 .taken)) (c .before .before .fill .ensures))
 
 part-write-cell-end : tie.Need-part-write-cell-end Inv-loop μ-loop
 part-write-cell-end c =
@@ -143,7 +143,8 @@ put-columns-spec =
     add-end
     (λ c. search needs)
     (λ c. search needs)
-    part-blanks-end
+    part-fill-end
+    (λ c. search needs)
     (λ c κs. search needs)
     add-i
     (λ c. search needs)

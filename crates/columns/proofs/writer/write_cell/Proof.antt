@@ -7,9 +7,9 @@ use lib.Seq.{length-take-le}
 use Rattle.columns.specs.Column.{slots, texts}
 use Rattle.columns.specs.Table.{colOf, slotsOf, groupAt}
 use Rattle.columns.proofs.laws.Answers.{wrote-as, wrote-done}
-use Rattle.columns.proofs.laws.Table.{number-col, char-col, col-group, col-blank, good-of-group, slots-length, slot-at}
+use Rattle.columns.proofs.laws.Table.{number-col, char-col, col-group, col-printed, good-of-group, slots-length, slot-at}
 use Rattle.columns.proofs.laws.Puts.{group-slots}
-use Rattle.columns.proofs.laws.Writer.{at-number, at-chars, at-group, at-blank}
+use Rattle.columns.proofs.laws.Writer.{at-number, at-chars, at-group, at-printed}
 use Rattle.columns.proofs.writer.write_cell.Statement.{statement}
 use Rattle.columns.proofs.writer.write_cell.Tie as tie
 
@@ -82,11 +82,11 @@ returns-3 c =
 
 returns-4 : tie.Need-returns-4
 returns-4 c =
-    let a = c .before .before .before .before .before .before .before .before .before .before .before .args in
-    let p = c .before .before .before .before .before .before .before .before .before .before .before .pre in
-    let k : 5 ≤ a .c .kind = omega (arith, c .before .before .before .before .if3 .left, c .before .before .before .before .before .if2 .left, c .before .before .before .before .before .before .if1 .left) in
-    let w : length (a .out .now) ≡ a .c .width = p .0 .wide ∙ rw (col-blank (a .c) (a .ranges .now) (a .letters .now) k) in
-    wrote-done _ (a .out .now) (replicate (a .c .width) 32) _ (sym (at-blank (a .c) (a .ranges .now) (a .letters .now) (a .at) (a .k) (a .t) (slotsOf (a .flags .now) (a .values .now)) (a .text .now) k)) (length-replicate (a .c .width) 32 ∙ sym w) (c .before .before .blanks .ensures ∙ rw w)
+    let a = c .before .before .before .before .before .before .before .before .before .before .before .before .args in
+    let p = c .before .before .before .before .before .before .before .before .before .before .before .before .pre in
+    let k : 5 ≤ a .c .kind = omega (arith, c .before .before .before .before .before .if3 .left, c .before .before .before .before .before .before .if2 .left, c .before .before .before .before .before .before .before .if1 .left) in
+    let w : length (a .out .now) ≡ a .c .width = p .0 .wide ∙ rw (col-printed (a .c) (a .ranges .now) (a .letters .now) k) in
+    wrote-done _ (a .out .now) (replicate (a .c .width) (a .c .last)) _ (sym (at-printed (a .c) (a .ranges .now) (a .letters .now) (a .at) (a .k) (a .t) (slotsOf (a .flags .now) (a .values .now)) (a .text .now) k)) (length-replicate (a .c .width) (a .c .last) ∙ sym w) (c .before .before .fill .ensures ∙ rw w)
 
 pub write-cell-spec : {M : Type 1} → statement M
 write-cell-spec =
@@ -106,6 +106,7 @@ write-cell-spec =
     write-group-requires
     (λ c. search needs)
     returns-3
+    (λ c. search needs)
     (λ c κs. search needs)
     (λ c. search needs)
     returns-4)

@@ -7,8 +7,8 @@ use lib.ListN.{length}
 use lib.Seq.{slice}
 use Rattle.columns.specs.Column.{Col, width, groupWidth}
 use Rattle.columns.specs.Table.{ruleAt, groupAt, colOf}
-use Rattle.columns.proofs.laws.Table.{good-text, good-of-group, col-text, col-letter, col-group, col-blank}
-use Rattle.columns.proofs.laws.Cursor.{read-text-is, read-letter-is, read-group-is, read-gap-is, found-as}
+use Rattle.columns.proofs.laws.Table.{good-text, good-of-group, col-text, col-letter, col-group, col-printed}
+use Rattle.columns.proofs.laws.Cursor.{read-text-is, read-letter-is, read-group-is, read-printed-is, found-as}
 use Rattle.columns.proofs.cursor.Cursor.other.Statement.{statement}
 use Rattle.columns.proofs.cursor.Cursor.other.Tie as tie
 
@@ -67,21 +67,21 @@ returns-3 c =
     (read-group-is (colOf (a .c) [] (a .letters .now)) seen (a .self .at) b _ (groupAt (a .c .last)) _ e (n .0) (rw f at (c .grouped .ensures seen b)))
     (record { answer = refl; next = n .1 })
 
-blanks-requires : tie.Need-blanks-requires
-blanks-requires c κs =
+printed-requires : tie.Need-printed-requires
+printed-requires c κs =
     let a = c .before .before .before .before .before .args in
     let p = c .before .before .before .before .before .pre .1 .1 .1 in
     let k : 5 ≤ a .c .kind = omega (arith, c .if3 .left, c .before .if2 .left, c .before .before .if1 .left, c .before .before .before .before .before .pre .0) in
-    let e = col-blank (a .c) [] (a .letters .now) k in
+    let e = col-printed (a .c) [] (a .letters .now) k in
     (subst (λ (x : Col). a .self .at + width x ≤ length (a .line .now)) e (p .fits), p .low)
 
 returns-4 : tie.Need-returns-4
 returns-4 c =
     let a = c .before .before .before .before .before .before .args in
     let k : 5 ≤ a .c .kind = omega (arith, c .before .if3 .left, c .before .before .if2 .left, c .before .before .before .if1 .left, c .before .before .before .before .before .before .pre .0) in
-    let e = col-blank (a .c) [] (a .letters .now) k in
+    let e = col-printed (a .c) [] (a .letters .now) k in
     let w : a .c .width ≡ width (colOf (a .c) [] (a .letters .now)) = rw e in
-    λ seen. found-as _ (colOf (a .c) [] (a .letters .now)) seen _ (a .self .at) (a .c .width) (a .line .now) w (read-gap-is (colOf (a .c) [] (a .letters .now)) seen (a .self .at) (slice (a .self .at) (a .self .at + a .c .width) (a .line .now)) (a .c .width) e) (c .blanks .ensures)
+    λ seen. found-as _ (colOf (a .c) [] (a .letters .now)) seen _ (a .self .at) (a .c .width) (a .line .now) w (read-printed-is (colOf (a .c) [] (a .letters .now)) seen (a .self .at) (slice (a .self .at) (a .self .at + a .c .width) (a .line .now)) (a .c .last) (a .c .width) e) (c .printed .ensures)
 
 pub other-spec : {M : Type 1} → statement M
 other-spec =
@@ -96,5 +96,6 @@ other-spec =
     group-requires
     grouped-requires
     returns-3
-    blanks-requires
+    (λ c. search needs)
+    printed-requires
     returns-4)
