@@ -26,3 +26,5 @@ pub mod BlockWriter
 pub mod BlockWriting
 pub mod BlockWalk
 pub mod BlockBounds
+pub mod Lettered
+pub mod Run

@@ -109,6 +109,10 @@ unfoldable pub readBlockBy : List ℕ → (List ℕ → Answer Rec) → List ℕ
 readBlockBy header read b =
     pick (ltb 65536 (length b)) (B.Refused wrongLength 0 0) (atMost (length b) (readHeaded header read (linesOf b)))
 
--- the blocks of a row format
-abbrev pub readBlock : RowFormat → List ℕ → Block
-readBlock F b = readBlockBy (F .header) (readRow (F .columns)) b
+-- the blocks of a row format, under their header
+pub record BlockFormat : Type 0 where
+  pub row : RowFormat
+  pub header : List ℕ
+
+abbrev pub readBlock : BlockFormat → List ℕ → Block
+readBlock F b = readBlockBy (F .header) (readRow (F .row .columns)) b

@@ -11,7 +11,7 @@ use Rattle.columns.specs.Writing.{inPlace}
 use Rattle.formats.specs.Lines.{newline, linesOf}
 use Rattle.formats.specs.Record.{replyOf}
 use Rattle.formats.specs.Row.{RowFormat, readRow, readRowRecord, writeRowFrom}
-use Rattle.formats.specs.Block.{readBlock}
+use Rattle.formats.specs.Block.{BlockFormat, readBlock}
 use Rattle.formats.specs.declared.Reply.{Reply}
 use Rattle.formats.specs.declared.Reply.the-variants as R
 use Rattle.formats.specs.declared.block.Block.the-variants as B
@@ -54,30 +54,31 @@ pub record RepliedFrom (at : ℕ) (a : Answer (List ℕ)) (r : Reply) (from to :
 -- ---- one call for the header, then one for each record, each from the place that the call before answered, on the output as
 -- that call left it; none is refused
 
+-- each record by the format that its bytes go by: in a block by the one of its rows
 -- records' bytes, the first place, the output before; the last place, the output after
-pub data RecordCalls (F : RowFormat) : List (List ℕ) → ℕ → List ℕ → ℕ → List ℕ → Type 0 where
-  noCalls : {at : ℕ} {out : List ℕ} → RecordCalls F [] at out at out
-  call : {r : List ℕ} {rs : List (List ℕ)} {at next end : ℕ} {out mid to : List ℕ} → RepliedFrom at (recordCall F r at (length out)) (R.Done next) out mid → RecordCalls F rs next mid end to → RecordCalls F (r ∷ rs) at out end to
+pub data RecordCalls (form : List ℕ → RowFormat) : List (List ℕ) → ℕ → List ℕ → ℕ → List ℕ → Type 0 where
+  noCalls : {at : ℕ} {out : List ℕ} → RecordCalls form [] at out at out
+  call : {r : List ℕ} {rs : List (List ℕ)} {at next end : ℕ} {out mid to : List ℕ} → RepliedFrom at (recordCall (form r) r at (length out)) (R.Done next) out mid → RecordCalls form rs next mid end to → RecordCalls form (r ∷ rs) at out end to
 
-pub record BlockCalls (F : RowFormat) (rs : List (List ℕ)) (at : ℕ) (out : List ℕ) (end : ℕ) (to : List ℕ) : Type 0 where
+pub record BlockCalls (F : BlockFormat) (rs : List (List ℕ)) (at : ℕ) (out : List ℕ) (end : ℕ) (to : List ℕ) : Type 0 where
   pub next : ℕ
   pub headed : List ℕ
   pub header : RepliedFrom at (headerCall (F .header) at (length out)) (R.Done next) out headed
-  pub records : RecordCalls F rs next headed end to
+  pub records : RecordCalls (λ r. F .row) rs next headed end to
 
 -- the bytes from the first place to the last
 abbrev pub written : ℕ → ℕ → List ℕ → List ℕ
 written at end to = take (end - at) (drop at to)
 
--- one line for each record, in order, which is read as the record that the bytes name
-pub data ReadBack (F : RowFormat) : List (List ℕ) → List (List ℕ) → Type 0 where
-  noLines : ReadBack F [] []
-  line : {r l : List ℕ} {rs ls : List (List ℕ)} {m : Rec} → readRowRecord F r ≡ ok m → readRow (F .columns) l ≡ ok m → ReadBack F rs ls → ReadBack F (r ∷ rs) (l ∷ ls)
+-- one line for each record, in order, of its full width, which is read as the record that the bytes name
+pub data ReadBack (form : List ℕ → RowFormat) : List (List ℕ) → List (List ℕ) → Type 0 where
+  noLines : ReadBack form [] []
+  line : {r l : List ℕ} {rs ls : List (List ℕ)} {m : Rec} → readRowRecord (form r) r ≡ ok m → readRow (form r .columns) l ≡ ok m → length l ≡ widths (form r .columns) → ReadBack form rs ls → ReadBack form (r ∷ rs) (l ∷ ls)
 
 -- what those calls wrote, and how it is read
-pub record WrittenBlock (F : RowFormat) (rs : List (List ℕ)) (at : ℕ) (out : List ℕ) (end : ℕ) (to : List ℕ) : Type 0 where
+pub record WrittenBlock (F : BlockFormat) (rs : List (List ℕ)) (at : ℕ) (out : List ℕ) (end : ℕ) (to : List ℕ) : Type 0 where
   -- the header's length and the full width for each record, and a newline after each
-  pub place : end ≡ at + (length (F .header) + 1) + (widths (F .columns) + 1) * length rs
+  pub place : end ≡ at + (length (F .header) + 1) + (widths (F .row .columns) + 1) * length rs
   -- other bytes stay
   pub size : length to ≡ length out
   pub before : take at to ≡ take at out
@@ -85,6 +86,6 @@ pub record WrittenBlock (F : RowFormat) (rs : List (List ℕ)) (at : ℕ) (out :
   -- the lines: the header, then the records' own, in order
   pub rows : List (List ℕ)
   pub lines : linesOf (written at end to) ≡ F .header ∷ rows
-  pub records : ReadBack F rs rows
+  pub records : ReadBack (λ r. F .row) rs rows
   -- the count of rows is the number of records, there are no comments, and all bytes are used
   pub block : end - at ≤ 65536 → readBlock F (written at end to) ≡ B.Read (length rs) 0 (end - at)

@@ -7,6 +7,7 @@ pub mod CubeRecord
 pub mod Lines
 pub mod Phase
 pub mod Arrival
+pub mod Calnet
 pub mod Row
 pub mod Format
 pub mod Judge
@@ -17,4 +18,8 @@ pub mod BlockReader
 pub mod BlockWriting
 pub mod BlockSteps
 pub mod BlockWalk
+pub mod Lettered
+pub mod Cards
+pub mod Run
+pub mod RunSteps
 pub mod Numbers

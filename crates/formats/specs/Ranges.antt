@@ -1,4 +1,5 @@
--- The ranges that columns name. Document 01, "The E line" and "The phase line"; degrees are scaled by 10,000.
+-- The ranges that columns name. Document 01, "The E line" and "The phase line"; degrees are scaled by 10,000. Those of a card's
+-- columns f.3 are the same at that scale (document 01, "The block": degrees at the column's scale; document 02, Wish 5).
 use lib.IntN.{pos, negsuc}
 use Rattle.columns.specs.Column.{Range, span}
 
@@ -31,3 +32,14 @@ distanceRange = span (pos 0) (pos 18000)
 -- tenths of a degree
 abbrev pub azimuthRange : Range
 azimuthRange = span (pos 0) (pos 3600)
+
+-- thousandths of a second
+abbrev pub secondRange3 : Range
+secondRange3 = span (pos 0) (pos 59999)
+
+-- thousandths of a degree
+abbrev pub latitudeRange3 : Range
+latitudeRange3 = span (negsuc 89999) (pos 90000)
+
+abbrev pub longitudeRange3 : Range
+longitudeRange3 = span (negsuc 179999) (pos 180000)

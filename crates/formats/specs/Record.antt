@@ -31,9 +31,13 @@ signedOf u = pick (ltb u topBit) (pos u) (negsuc (allOnes - u))
 
 -- ---- a record: its kind, a flag for each number (1 there, 0 missing), eight bytes for each number, its text
 
-unfoldable pub valueBytes : List ℤ → List ℕ
-valueBytes [] = []
-valueBytes (v ∷ vs) = wordBytes 8 (patternOf v) ++ valueBytes vs
+-- the numbers that some things stand for, w bytes each
+unfoldable pub wordsBy : {A : Type 0} → ℕ → (A → ℕ) → List A → List ℕ
+wordsBy w word [] = []
+wordsBy w word (x ∷ xs) = wordBytes w (word x) ++ wordsBy w word xs
+
+abbrev pub valueBytes : List ℤ → List ℕ
+valueBytes vs = wordsBy 8 patternOf vs
 
 abbrev pub packed : ℕ → List ℕ → List ℤ → List ℕ → List ℕ
 packed kind flags values t = kind ∷ (flags ++ (valueBytes values ++ t))

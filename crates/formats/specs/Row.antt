@@ -14,11 +14,10 @@ use Rattle.columns.specs.Table.{flagsOf, valuesOf, over}
 use Rattle.columns.specs.Row.{whole, rowSize}
 use Rattle.formats.specs.Record.{packed, slotsIn}
 
--- a format is its columns, the number of its record's kind, and the header of its blocks
+-- a format is its columns and the number of its record's kind
 pub record RowFormat : Type 0 where
   pub columns : List Col
   pub kind : ℕ
-  pub header : List ℕ
 
 -- ---- the line
 

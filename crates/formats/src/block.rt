@@ -14,7 +14,7 @@ ghost use Prim.Native.Nat.{_≤_, _<_};
 ghost use lib.ListN.{length, drop};
 ghost use Rattle.formats.specs.Lines.{linesOf};
 ghost use Rattle.formats.specs.Block.{isHeader, kindOf, plus, readLines, atMost, readBlock};
-ghost use Rattle.formats.specs.Format.{formatOf};
+ghost use Rattle.formats.specs.Format.{formatOf, headerOf, blockOf};
 ghost use Rattle.formats.specs.Row.{readRow};
 ghost use Rattle.formats.specs.BlockSteps.{counted, stepOf};
 
@@ -34,7 +34,7 @@ pub enum Step {
 
 // Whether a line, trailing blanks removed, is the header of the blocks of a kind.
 pub fn is_header(kind: u8, line: &[u8]) -> bool
-    ensures { λ r. ⌜ r ≡ isHeader (formatOf kind .header) (now (line .entry)) ⌝ }
+    ensures { λ r. ⌜ r ≡ isHeader (headerOf kind) (now (line .entry)) ⌝ }
 {
     let n = trimmed(line);
     let mut words = [0u8; 256];
@@ -99,7 +99,7 @@ fn read_lines(kind: u8, block: &[u8], from: usize) -> Block
 
 // A block of the format of a kind, of any bytes and any length.
 pub fn read_block(kind: u8, block: &[u8]) -> Block
-    ensures { λ r. ⌜ r ≡ readBlock (formatOf kind) (now (block .entry)) ⌝ }
+    ensures { λ r. ⌜ r ≡ readBlock (blockOf kind) (now (block .entry)) ⌝ }
 {
     if 65536 < block.len() {
         return Block::Refused(super::LENGTH, 0, 0);

@@ -8,7 +8,7 @@ ghost use mathlib.Core.Path.{_≡_};
 ghost use Prim.Native.Nat.{_≤_};
 ghost use Rattle.formats.specs.Block.{kindOf};
 ghost use Rattle.formats.specs.BlockWalk.{nothing, known, lineAfter, firstLine, nextLine};
-ghost use Rattle.formats.specs.Format.{formatOf};
+ghost use Rattle.formats.specs.Format.{headerOf};
 
 pub const NO_LINE: u8 = 0;
 
@@ -75,7 +75,7 @@ fn known_line(line: &[u8], before: usize, end: usize, next: usize) -> BlockLine
 
 // The first line of a block of a kind, or its refusal.
 pub fn first_line(kind: u8, block: &[u8]) -> BlockLine
-    ensures { λ r. ⌜ r ≡ firstLine (formatOf kind .header) (now (block .entry)) ⌝ }
+    ensures { λ r. ⌜ r ≡ firstLine (headerOf kind) (now (block .entry)) ⌝ }
 {
     if 65536 < block.len() {
         return no_line(super::LENGTH);

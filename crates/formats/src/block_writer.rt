@@ -10,13 +10,13 @@ ghost use Prim.Native.Nat.{_+_, _-_, _^_, _<_};
 ghost use lib.ListN.{length};
 ghost use Rattle.formats.specs.Record.{Replied};
 ghost use Rattle.formats.specs.Row.{writeRowFrom};
-ghost use Rattle.formats.specs.Format.{formatOf};
+ghost use Rattle.formats.specs.Format.{formatOf, headerOf};
 ghost use Rattle.formats.specs.BlockWriting.{ended, writeHeader, headerCall, recordCall, fromPlace, RepliedFrom};
 ghost use Rattle.formats.specs.Numbers.{replyLength};
 
 // The header and its newline, over the first bytes of `part`.
 fn header_line(kind: u8, part: &mut [u8]) -> Reply
-    ensures { λ r. ⌜ Replied (ended (writeHeader (formatOf kind .header) (length (now (part .entry)) - 1))) r (now (part .entry)) (now (part .exit)) ⌝ }
+    ensures { λ r. ⌜ Replied (ended (writeHeader (headerOf kind) (length (now (part .entry)) - 1))) r (now (part .entry)) (now (part .exit)) ⌝ }
 {
     let mut words = [0u8; 256];
     let n = put_header(kind, &mut words);
@@ -57,7 +57,7 @@ fn from_place(at: usize, reply: Reply) -> Reply
 
 // The header of a kind's blocks and its newline, from place `at` of `out` on; answers the place after it. Nothing is changed where it is refused.
 pub fn write_header(kind: u8, out: &mut [u8], at: usize) -> Reply
-    ensures { λ r. ⌜ RepliedFrom at (headerCall (formatOf kind .header) at (length (now (out .entry)))) r (now (out .entry)) (now (out .exit)) ⌝ }
+    ensures { λ r. ⌜ RepliedFrom at (headerCall (headerOf kind) at (length (now (out .entry)))) r (now (out .entry)) (now (out .exit)) ⌝ }
 {
     if out.len() <= at {
         return Reply::Refused(columns::SHORT, 0);

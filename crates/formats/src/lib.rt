@@ -10,11 +10,13 @@ pub mod cube_record;
 pub mod format;
 pub mod header;
 pub mod judge;
+pub mod lettered;
 pub mod lines;
 pub mod link;
 pub mod ranges;
 pub mod record;
 pub mod row;
+pub mod run;
 pub mod table;
 
 // The numbers answered for a line, beside those of its columns (document 01, "Numbers answered").

@@ -17,8 +17,15 @@ pub const DISTANCE: u32 = 17;
 
 pub const AZIMUTH: u32 = 19;
 
+// As SECOND, LATITUDE and LONGITUDE, of columns with three decimals.
+pub const SECOND_3: u32 = 21;
+
+pub const LATITUDE_3: u32 = 23;
+
+pub const LONGITUDE_3: u32 = 25;
+
 // Places 0 to 2 name no span: they stand for "as held", "not negative" and "a day".
-pub const RANGES: [i64; 21] = [
+pub const RANGES: [i64; 27] = [
     0, // as held
     0, // not negative
     0, // a day
@@ -40,4 +47,10 @@ pub const RANGES: [i64; 21] = [
     18000,
     0, // azimuth x 10
     3600,
+    0, // second x 1000
+    59999,
+    -90000, // latitude x 1000
+    90000,
+    -180000, // longitude x 1000
+    180000,
 ];

@@ -2,9 +2,16 @@
 use super::format::format_of;
 use super::ranges::AZIMUTH;
 use super::ranges::DISTANCE;
+use super::ranges::HOUR;
 use super::ranges::LATITUDE;
+use super::ranges::LATITUDE_3;
 use super::ranges::LONGITUDE;
+use super::ranges::LONGITUDE_3;
+use super::ranges::MINUTE;
+use super::ranges::MONTH;
 use super::ranges::RANGES;
+use super::ranges::SECOND_3;
+use super::ranges::YEAR;
 use columns::Outcome;
 use columns::column::ANY_TEXT;
 use columns::column::AS_HELD;
@@ -12,12 +19,16 @@ use columns::column::BLANK;
 use columns::column::BLANK_OR_FILLED;
 use columns::column::CLOCK;
 use columns::column::DATE;
+use columns::column::DAY;
 use columns::column::DECIMAL;
 use columns::column::GROUP;
+use columns::column::INTEGER;
 use columns::column::LETTER;
 use columns::column::NOT_ALL_BLANK;
 use columns::column::NOT_BLANK_FIRST;
 use columns::column::PLACES;
+use columns::column::PRINTED;
+use columns::column::REQUIRED;
 use columns::column::TEXT;
 use columns::column::WIDTH;
 use columns::reader::read_columns;
@@ -32,7 +43,7 @@ ghost use Rattle.columns.specs.Table.{slotsOf, ReadPart, Wrote};
 ghost use Rattle.formats.specs.Format.{formatOf};
 
 // The columns of every row format, one format after the other.
-const ROWS: [u32; 118] = [
+const ROWS: [u32; 202] = [
     // the phase line, specs/Phase.antt
     TEXT + 5 * WIDTH + NOT_BLANK_FIRST, // 1-5 station
     BLANK + WIDTH, // 6
@@ -153,6 +164,91 @@ const ROWS: [u32; 118] = [
     DECIMAL + 7 * WIDTH + PLACES + AS_HELD, // 190-196 elevation
     BLANK + WIDTH, // 197
     DECIMAL + 6 * WIDTH + PLACES + AS_HELD, // 198-203 instrument depth
+    // the cards, specs/Calnet.antt
+    PRINTED + WIDTH + 73, // 1 I
+    BLANK + WIDTH, // 2
+    INTEGER + 4 * WIDTH + REQUIRED + YEAR, // 3-6 year
+    BLANK + WIDTH, // 7
+    INTEGER + 2 * WIDTH + REQUIRED + MONTH, // 8-9 month
+    BLANK + WIDTH, // 10
+    INTEGER + 2 * WIDTH + REQUIRED + DAY, // 11-12 day
+    BLANK + WIDTH, // 13
+    INTEGER + 2 * WIDTH + REQUIRED + HOUR, // 14-15 hour
+    BLANK + WIDTH, // 16
+    INTEGER + 2 * WIDTH + REQUIRED + MINUTE, // 17-18 minute
+    BLANK + WIDTH, // 19
+    DECIMAL + 6 * WIDTH + 3 * PLACES + REQUIRED + SECOND_3, // 20-25 second
+    BLANK + WIDTH, // 26
+    INTEGER + 8 * WIDTH + AS_HELD, // 27-34 identifier
+    BLANK + WIDTH, // 35
+    INTEGER + 8 * WIDTH + AS_HELD, // 36-43 parent's identifier
+    BLANK + WIDTH, // 44
+    TEXT + WIDTH + ANY_TEXT, // 45 type
+    PRINTED + WIDTH + 76, // 1 L
+    BLANK + WIDTH, // 2
+    DECIMAL + 7 * WIDTH + 3 * PLACES + LATITUDE_3, // 3-9 latitude
+    BLANK + WIDTH, // 10
+    DECIMAL + 8 * WIDTH + 3 * PLACES + LONGITUDE_3, // 11-18 longitude
+    BLANK + WIDTH, // 19
+    DECIMAL + 6 * WIDTH + 2 * PLACES + AS_HELD, // 20-25 depth
+    BLANK + WIDTH, // 26
+    DECIMAL + 9 * WIDTH + 3 * PLACES + AS_HELD, // 27-35 origin time
+    BLANK + WIDTH, // 36
+    TEXT + 3 * WIDTH + ANY_TEXT, // 37-39 constraints
+    BLANK + WIDTH, // 40
+    TEXT + 3 * WIDTH + ANY_TEXT, // 41-43 method
+    PRINTED + WIDTH + 69, // 1 E
+    BLANK + WIDTH, // 2
+    DECIMAL + 7 * WIDTH + 3 * PLACES + AS_HELD, // 3-9 residual
+    BLANK + WIDTH, // 10
+    DECIMAL + 7 * WIDTH + 3 * PLACES + AS_HELD, // 11-17 error in latitude
+    BLANK + WIDTH, // 18
+    DECIMAL + 7 * WIDTH + 3 * PLACES + AS_HELD, // 19-25 error in longitude
+    BLANK + WIDTH, // 26
+    DECIMAL + 7 * WIDTH + 3 * PLACES + AS_HELD, // 27-33 depth error
+    BLANK + WIDTH, // 34
+    DECIMAL + 7 * WIDTH + 3 * PLACES + AS_HELD, // 35-41 error in origin time
+    BLANK + WIDTH, // 42
+    INTEGER + 4 * WIDTH + AS_HELD, // 43-46 picked phases
+    BLANK + WIDTH, // 47
+    INTEGER + 4 * WIDTH + AS_HELD, // 48-51 phases used
+    BLANK + WIDTH, // 52
+    DECIMAL + 5 * WIDTH + PLACES + AS_HELD, // 53-57 gap
+    BLANK + WIDTH, // 58
+    DECIMAL + 5 * WIDTH + PLACES + AS_HELD, // 59-63 nearest station
+    PRINTED + WIDTH + 77, // 1 M
+    BLANK + WIDTH, // 2
+    TEXT + WIDTH + ANY_TEXT, // 3 magnitude type
+    BLANK + WIDTH, // 4
+    DECIMAL + 6 * WIDTH + 2 * PLACES + AS_HELD, // 5-10 magnitude
+    INTEGER + 3 * WIDTH + AS_HELD, // 11-13 count
+    BLANK + WIDTH, // 14
+    TEXT + 4 * WIDTH + ANY_TEXT, // 15-18 agency
+    PRINTED + WIDTH + 80, // 1 P
+    BLANK + WIDTH, // 2
+    TEXT + 15 * WIDTH + ANY_TEXT, // 3-17 station
+    BLANK + WIDTH, // 18
+    TEXT + 3 * WIDTH + ANY_TEXT, // 19-21 recording system
+    BLANK + WIDTH, // 22
+    TEXT + 6 * WIDTH + ANY_TEXT, // 23-28 phase
+    BLANK + WIDTH, // 29
+    TEXT + 3 * WIDTH + ANY_TEXT, // 30-32 description
+    BLANK + WIDTH, // 33
+    DECIMAL + 9 * WIDTH + 3 * PLACES + AS_HELD, // 34-42 arrival time
+    PRINTED + WIDTH + 65, // 1 A
+    BLANK + WIDTH, // 2
+    TEXT + 15 * WIDTH + ANY_TEXT, // 3-17 station
+    BLANK + WIDTH, // 18
+    TEXT + 3 * WIDTH + ANY_TEXT, // 19-21 recording system
+    BLANK + WIDTH, // 22
+    DECIMAL + 7 * WIDTH + 2 * PLACES + AS_HELD, // 23-29 amplitude
+    BLANK + WIDTH, // 30
+    TEXT + 6 * WIDTH + ANY_TEXT, // 31-36 phase
+    BLANK + WIDTH, // 37
+    DECIMAL + 6 * WIDTH + 2 * PLACES + AS_HELD, // 38-43 period
+    PRINTED + WIDTH + 82, // 1 R
+    BLANK + WIDTH, // 2
+    TEXT + 76 * WIDTH + ANY_TEXT, // 3-78 remark
 ];
 
 // The sets of letters, one after the other.

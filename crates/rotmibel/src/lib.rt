@@ -22,7 +22,7 @@ ghost use Prim.Native.Nat.{_<_};
 ghost use lib.ListN.{length};
 ghost use Rattle.formats.specs.CubeRecord.{readInto, writeFrom};
 ghost use Rattle.formats.specs.Row.{readRowInto, writeRowFrom};
-ghost use Rattle.formats.specs.Format.{formatOf};
+ghost use Rattle.formats.specs.Format.{formatOf, headerOf, blockOf};
 ghost use Rattle.formats.specs.Block.{readBlock};
 ghost use Rattle.formats.specs.BlockWriting.{headerCall, recordCall};
 ghost use Rattle.catalogue.specs.Room.{callOf, roomAfter, orderOf};
@@ -129,7 +129,7 @@ fn write_row_number(kind: u8, from: &[u8], out: &mut [u8]) -> u64
 
 // A block read.
 fn block_number(kind: u8, block: &[u8]) -> u64
-    ensures { λ r. ⌜ r ≡ blockAnswer (readBlock (formatOf kind) (now (block .entry))) ⌝ }
+    ensures { λ r. ⌜ r ≡ blockAnswer (readBlock (blockOf kind) (now (block .entry))) ⌝ }
 {
     let outcome = read_block(kind, block);
     match outcome {
@@ -152,7 +152,7 @@ fn line_of(number: u64) -> BlockLine
 
 // The first line of a block, or the line after the one that a number tells of.
 fn met_line(kind: u8, block: &[u8], before: u64) -> BlockLine
-    ensures { λ r. ⌜ r ≡ metLine (formatOf kind .header) (now (block .entry)) before ⌝ }
+    ensures { λ r. ⌜ r ≡ metLine (headerOf kind) (now (block .entry)) before ⌝ }
 {
     if before == 0 {
         return first_line(kind, block);
@@ -162,7 +162,7 @@ fn met_line(kind: u8, block: &[u8], before: u64) -> BlockLine
 
 // The next line of a block, after the one that the call before answered.
 fn met_number(kind: u8, block: &[u8], before: u64) -> u64
-    ensures { λ r. ⌜ r ≡ lineNumber (metLine (formatOf kind .header) (now (block .entry)) before) ⌝ }
+    ensures { λ r. ⌜ r ≡ lineNumber (metLine (headerOf kind) (now (block .entry)) before) ⌝ }
 {
     let line = met_line(kind, block, before);
     parts_of(line.kind, line.number, line.end + 1048576 * line.next)
@@ -170,7 +170,7 @@ fn met_number(kind: u8, block: &[u8], before: u64) -> u64
 
 // A block's header written from a place on.
 fn header_number(kind: u8, out: &mut [u8], at: usize) -> u64
-    ensures { λ r. ⌜ AnsweredFrom at (headerCall (formatOf kind .header) at (length (now (out .entry)))) r (now (out .entry)) (now (out .exit)) ⌝ }
+    ensures { λ r. ⌜ AnsweredFrom at (headerCall (headerOf kind) at (length (now (out .entry)))) r (now (out .entry)) (now (out .exit)) ⌝ }
 {
     place_of(write_header(kind, out, at))
 }
@@ -203,7 +203,7 @@ pub extern "C" fn rotmibel_write_phase(from: &[u8], out: &mut [u8]) -> u64
 // A phase block read.
 #[no_mangle]
 pub extern "C" fn rotmibel_read_block(block: &[u8]) -> u64
-    ensures { λ r. ⌜ r ≡ blockAnswer (readBlock (formatOf 3) (now (block .entry))) ⌝ }
+    ensures { λ r. ⌜ r ≡ blockAnswer (readBlock (blockOf 3) (now (block .entry))) ⌝ }
 {
     block_number(PHASE, block)
 }
@@ -211,7 +211,7 @@ pub extern "C" fn rotmibel_read_block(block: &[u8]) -> u64
 // The next line of a phase block, after the one that the call before answered.
 #[no_mangle]
 pub extern "C" fn rotmibel_block_line(block: &[u8], before: u64) -> u64
-    ensures { λ r. ⌜ r ≡ lineNumber (metLine (formatOf 3 .header) (now (block .entry)) before) ⌝ }
+    ensures { λ r. ⌜ r ≡ lineNumber (metLine (headerOf 3) (now (block .entry)) before) ⌝ }
 {
     met_number(PHASE, block, before)
 }
@@ -219,7 +219,7 @@ pub extern "C" fn rotmibel_block_line(block: &[u8], before: u64) -> u64
 // The header of a phase block written from a place on.
 #[no_mangle]
 pub extern "C" fn rotmibel_write_header(out: &mut [u8], at: usize) -> u64
-    ensures { λ r. ⌜ AnsweredFrom at (headerCall (formatOf 3 .header) at (length (now (out .entry)))) r (now (out .entry)) (now (out .exit)) ⌝ }
+    ensures { λ r. ⌜ AnsweredFrom at (headerCall (headerOf 3) at (length (now (out .entry)))) r (now (out .entry)) (now (out .exit)) ⌝ }
 {
     header_number(PHASE, out, at)
 }
@@ -253,7 +253,7 @@ pub extern "C" fn rotmibel_write_arrival(from: &[u8], out: &mut [u8]) -> u64
 // An arrival block read.
 #[no_mangle]
 pub extern "C" fn rotmibel_read_arrival_block(block: &[u8]) -> u64
-    ensures { λ r. ⌜ r ≡ blockAnswer (readBlock (formatOf 5) (now (block .entry))) ⌝ }
+    ensures { λ r. ⌜ r ≡ blockAnswer (readBlock (blockOf 5) (now (block .entry))) ⌝ }
 {
     block_number(ARRIVAL, block)
 }
@@ -261,7 +261,7 @@ pub extern "C" fn rotmibel_read_arrival_block(block: &[u8]) -> u64
 // The next line of an arrival block, after the one that the call before answered.
 #[no_mangle]
 pub extern "C" fn rotmibel_arrival_block_line(block: &[u8], before: u64) -> u64
-    ensures { λ r. ⌜ r ≡ lineNumber (metLine (formatOf 5 .header) (now (block .entry)) before) ⌝ }
+    ensures { λ r. ⌜ r ≡ lineNumber (metLine (headerOf 5) (now (block .entry)) before) ⌝ }
 {
     met_number(ARRIVAL, block, before)
 }
@@ -269,7 +269,7 @@ pub extern "C" fn rotmibel_arrival_block_line(block: &[u8], before: u64) -> u64
 // The header of an arrival block written from a place on.
 #[no_mangle]
 pub extern "C" fn rotmibel_write_arrival_header(out: &mut [u8], at: usize) -> u64
-    ensures { λ r. ⌜ AnsweredFrom at (headerCall (formatOf 5 .header) at (length (now (out .entry)))) r (now (out .entry)) (now (out .exit)) ⌝ }
+    ensures { λ r. ⌜ AnsweredFrom at (headerCall (headerOf 5) at (length (now (out .entry)))) r (now (out .entry)) (now (out .exit)) ⌝ }
 {
     header_number(ARRIVAL, out, at)
 }

@@ -13,7 +13,7 @@ use Rattle.columns.specs.Row.{Fits}
 use Rattle.columns.proofs.laws.Bounds.{columnOf, pick-bound, barred-bound}
 use Rattle.formats.specs.Row.{RowFormat, lowestBarredByte, writeRowFrom}
 use Rattle.formats.specs.Lines.{onFirst, linesOf, lineEnd}
-use Rattle.formats.specs.Block.{Kind, closing, comment, row, kindOf, isHeader, trimEnd, lastByte, readComment, outOfPlace, plus, onLine, withNewline, readLine, readLines, readHeaded, atMost, readBlockBy, readBlock}
+use Rattle.formats.specs.Block.{BlockFormat, Kind, closing, comment, row, kindOf, isHeader, trimEnd, lastByte, readComment, outOfPlace, plus, onLine, withNewline, readLine, readLines, readHeaded, atMost, readBlockBy, readBlock}
 use Rattle.formats.proofs.laws.BlockReader.{next-range}
 use Rattle.formats.proofs.laws.Lines.{lt-or-le, line-end-to}
 use Rattle.formats.proofs.laws.Row.{row-bound}
@@ -119,8 +119,8 @@ module _ (header : List ℕ) (read : List ℕ → Answer Rec) (low : (l : List �
   ]
 
 -- the blocks of a row format
-pub block-small : (F : RowFormat) → Fits (F .columns) → (b : List ℕ) → Small (readBlock F b)
-block-small F f b = small-block (F .header) _ (λ l. omega (arith, row-bound (F .columns) f l, f .wide)) b
+pub block-small : (F : BlockFormat) → Fits (F .row .columns) → (b : List ℕ) → Small (readBlock F b)
+block-small F f b = small-block (F .header) _ (λ l. omega (arith, row-bound (F .row .columns) f l, f .wide)) b
 
 -- ---- a line of a walk
 

@@ -21,7 +21,7 @@ use Rattle.columns.proofs.laws.Places.{placed-none, placed-split, placed-length
 use Rattle.columns.proofs.laws.Row.{row-wide}
 use Rattle.formats.specs.Lines.{onFirst, linesOf}
 use Rattle.formats.specs.Row.{RowFormat, readRow, writeRowFrom}
-use Rattle.formats.specs.Block.{beforeTrimmed, trimEnd, row, beginsComment, kindOf, readLines, readHeaded, readBlockBy, readBlock}
+use Rattle.formats.specs.Block.{BlockFormat, beforeTrimmed, trimEnd, row, beginsComment, kindOf, readLines, readHeaded, readBlockBy, readBlock}
 use Rattle.formats.specs.BlockWriting.{ended, writeHeader, roomFrom, headerCall, recordCall, RepliedFrom, RecordCalls, noCalls, call, BlockCalls, written, ReadBack, noLines, line, WrittenBlock}
 use Rattle.formats.proofs.laws.Format.{HeaderFine}
 use Rattle.formats.proofs.laws.Row.{row-text, row-opened, row-some}
@@ -31,7 +31,7 @@ use Rattle.formats.specs.declared.block.Block.the-variants as B
 
 -- ---- lines one after the other, each with its newline
 
-unfoldable textOf : List (List ℕ) → List ℕ
+unfoldable pub textOf : List (List ℕ) → List ℕ
 textOf [] = []
 textOf (l ∷ ls) = l ++ 10 ∷ textOf ls
 
@@ -142,10 +142,10 @@ called (ok l) at next out to w = let e = w .answer in record { line = l; is = re
 called (refusal n k) at next out to w = let e = w .answer in let z : _≡_ {A = ℕ} 0 1 = cc in let y : ⊥ = omega arith in absurd y
 
 -- the lines that were written from a place on
-record Laid (ls : List (List ℕ)) (at : ℕ) (out : List ℕ) (end : ℕ) (to : List ℕ) : Type 0 where
-  place : end ≡ at + length (textOf ls)
-  fits : end ≤ length out
-  bytes : to ≡ placed at (textOf ls) out
+pub record Laid (ls : List (List ℕ)) (at : ℕ) (out : List ℕ) (end : ℕ) (to : List ℕ) : Type 0 where
+  pub place : end ≡ at + length (textOf ls)
+  pub fits : end ≤ length out
+  pub bytes : to ≡ placed at (textOf ls) out
 
 laid-none : (at : ℕ) (out : List ℕ) → at ≤ length out → Laid [] at out at out
 unfolding textOf
@@ -173,60 +173,94 @@ module _ {a : Answer (List ℕ)} {at next : ℕ} {out mid : List ℕ} (c : Calle
         bytes = p .bytes ∙ ap (placed next t) (c .bytes) ∙ placed-placed at next (l ++ 10 ∷ []) t out (c .place) (omega (arith, p .place, p .fits, same-size)) ∙ rw (append-assoc l (10 ∷ []) t);
       }
 
--- ---- the calls
+-- ---- the calls, each record by the format that its bytes go by
 
-module _ (F : RowFormat) (f : Fits (F .columns)) where
-  pub row-kind : (l : List ℕ) (m : Rec) → readRow (F .columns) l ≡ ok m → kindOf l ≡ row
-  row-kind l m e = row-kind-of l (row-some (F .columns) f l m e) (row-opened (F .columns) f l m e)
-
-  back-read : {rs ls : List (List ℕ)} → ReadBack F rs ls → AllRead (readRow (F .columns)) ls
-  back-read noLines = noneRead
-  back-read (line a b p) = lineRead b (back-read p)
-
-  back-count : {rs ls : List (List ℕ)} → ReadBack F rs ls → length ls ≡ length rs
+module _ (form : List ℕ → RowFormat) (fit : (r : List ℕ) → Fits (form r .columns)) where
+  pub back-count : {rs ls : List (List ℕ)} → ReadBack form rs ls → length ls ≡ length rs
   back-count noLines = refl
-  back-count (line a b p) = ap suc (back-count p)
+  back-count (line a b n p) = ap suc (back-count p)
 
-  record LaidBack (rs : List (List ℕ)) (at : ℕ) (out : List ℕ) (end : ℕ) (to : List ℕ) : Type 0 where
-    rows : List (List ℕ)
-    back : ReadBack F rs rows
-    laid : Laid rows at out end to
-    size : length (textOf rows) ≡ (widths (F .columns) + 1) * length rs
+  -- their lines are text, each ended by its newline
+  pub back-lines : {rs ls : List (List ℕ)} → ReadBack form rs ls → linesOf (textOf ls) ≡ ls
+  unfolding textOf linesOf
+  back-lines noLines = refl
+  back-lines (line {r = r} {l = l} {ls = ls} {m = m} a b n p) =
+      line-ended (textOf ls) (row-text (form r .columns) (fit r) l m b) ∙ ap (λ (x : List (List ℕ)). l ∷ x) (back-lines p)
 
-  records-laid : {rs : List (List ℕ)} {at end : ℕ} {out to : List ℕ} → at ≤ length out → RecordCalls F rs at out end to → LaidBack rs at out end to
-  unfolding recordCall textOf
-  records-laid h noCalls = record { rows = []; back = noLines; laid = laid-none _ _ h; size = omega arith }
+  pub record LaidBack (rs : List (List ℕ)) (at : ℕ) (out : List ℕ) (end : ℕ) (to : List ℕ) : Type 0 where
+    pub rows : List (List ℕ)
+    pub back : ReadBack form rs rows
+    pub laid : Laid rows at out end to
+
+  pub records-laid : {rs : List (List ℕ)} {at end : ℕ} {out to : List ℕ} → at ≤ length out → RecordCalls form rs at out end to → LaidBack rs at out end to
+  unfolding recordCall
+  records-laid h noCalls = record { rows = []; back = noLines; laid = laid-none _ _ h }
   records-laid h (call {r = r} {rs = rs} {at = at} {next = next} {out = out} {mid = mid} w ws) =
+      let F = form r in
+      let f = fit r in
       let room = roomFrom at (length out) in
       let c = called (writeRowFrom F r room) at next out mid w in
       let p = row-written F f r (c .line) room (c .is) in
       let k : at + (length (c .line) + 1) ≤ length out = omega (arith, p .fits, p .size, row-wide (F .columns) (f .sound .fine) (f .opened)) in
       let q = records-laid (next-in c k) ws in
-      let m : (widths (F .columns) + 1) * suc (length rs) ≡ (widths (F .columns) + 1) * length rs + (widths (F .columns) + 1) = mul-suc (widths (F .columns) + 1) (length rs) in
       record {
         rows = c .line ∷ q .rows;
-        back = line (p .named) (p .back) (q .back);
+        back = line (p .named) (p .back) (p .size) (q .back);
         laid = laid-more c k (q .laid);
-        size = length-append (c .line) (10 ∷ textOf (q .rows)) ∙ omega (arith, p .size, q .size, m);
       }
 
-  block-laid : HeaderFine (F .header) → {rs : List (List ℕ)} {next at end : ℕ} {out mid to : List ℕ} (q : LaidBack rs next mid end to) → Laid (F .header ∷ q .rows) at out end to → WrittenBlock F rs at out end to
+-- ---- what was laid into an output: the bytes from the first place to the last are the lines, other bytes stay
+
+module _ {ls : List (List ℕ)} {at end : ℕ} {out to : List ℕ} (p : Laid ls at out end to) where
+  pub laid-written : written at end to ≡ textOf ls
+  laid-written = ap (written at end) (p .bytes) ∙ placed-part at end (textOf ls) out (p .place) (p .fits)
+
+  pub laid-length : end - at ≡ length (textOf ls)
+  laid-length = omega (arith, p .place)
+
+  pub laid-size : length to ≡ length out
+  laid-size = ap length (p .bytes) ∙ placed-length at (textOf ls) out (omega (arith, p .place, p .fits))
+
+  pub laid-before : take at to ≡ take at out
+  laid-before = ap (take at) (p .bytes) ∙ placed-before at end (textOf ls) out (p .place) (p .fits)
+
+  pub laid-after : drop end to ≡ drop end out
+  laid-after = ap (drop end) (p .bytes) ∙ placed-after at end (textOf ls) out (p .place) (p .fits)
+
+-- ---- a block: its header, then records of one format
+
+module _ (F : BlockFormat) (f : Fits (F .row .columns)) where
+  pub row-kind : (l : List ℕ) (m : Rec) → readRow (F .row .columns) l ≡ ok m → kindOf l ≡ row
+  row-kind l m e = row-kind-of l (row-some (F .row .columns) f l m e) (row-opened (F .row .columns) f l m e)
+
+  back-read : {rs ls : List (List ℕ)} → ReadBack (λ r. F .row) rs ls → AllRead (readRow (F .row .columns)) ls
+  back-read noLines = noneRead
+  back-read (line a b n p) = lineRead b (back-read p)
+
+  -- all of the full width
+  back-size : {rs ls : List (List ℕ)} → ReadBack (λ r. F .row) rs ls → length (textOf ls) ≡ (widths (F .row .columns) + 1) * length rs
+  unfolding textOf
+  back-size noLines = omega arith
+  back-size (line {l = l} {rs = rs} {ls = ls} a b n p) =
+      let m : (widths (F .row .columns) + 1) * suc (length rs) ≡ (widths (F .row .columns) + 1) * length rs + (widths (F .row .columns) + 1) = mul-suc (widths (F .row .columns) + 1) (length rs) in
+      length-append l (10 ∷ textOf ls) ∙ omega (arith, n, back-size p, m)
+
+  block-laid : HeaderFine (F .header) → {rs : List (List ℕ)} {next at end : ℕ} {out mid to : List ℕ} (q : LaidBack (λ r. F .row) (λ r. f) rs next mid end to) → Laid (F .header ∷ q .rows) at out end to → WrittenBlock F rs at out end to
   unfolding textOf
   block-laid h {rs} {next} {at} {end} {out} {mid} {to} q p =
       let ls = q .rows in
-      let read = readRow (F .columns) in
-      let t = textOf (F .header ∷ ls) in
-      let x : written at end to ≡ t = ap (written at end) (p .bytes) ∙ placed-part at end t out (p .place) (p .fits) in
-      let n : end - at ≡ length t = omega (arith, p .place) in
+      let read = readRow (F .row .columns) in
+      let x = laid-written p in
+      let n = laid-length p in
       record {
-        place = omega (arith, p .place, q .size, length-append (F .header) (10 ∷ textOf ls));
-        size = ap length (p .bytes) ∙ placed-length at t out (omega (arith, p .place, p .fits));
-        before = ap (take at) (p .bytes) ∙ placed-before at end t out (p .place) (p .fits);
-        after = ap (drop end) (p .bytes) ∙ placed-after at end t out (p .place) (p .fits);
+        place = omega (arith, p .place, back-size (q .back), length-append (F .header) (10 ∷ textOf ls));
+        size = laid-size p;
+        before = laid-before p;
+        after = laid-after p;
         rows = ls;
-        lines = ap linesOf x ∙ headed-lines (F .header) h read (row-text (F .columns) f) row-kind (back-read (q .back));
+        lines = ap linesOf x ∙ headed-lines (F .header) h read (row-text (F .row .columns) f) row-kind (back-read (q .back));
         records = q .back;
-        block = λ k. ap (readBlock F) x ∙ text-read (F .header) h read (row-text (F .columns) f) row-kind (back-read (q .back)) (omega arith) ∙ rw (back-count (q .back), n);
+        block = λ k. ap (readBlock F) x ∙ text-read (F .header) h read (row-text (F .row .columns) f) row-kind (back-read (q .back)) (omega arith) ∙ rw (back-count (λ r. F .row) (λ r. f) (q .back), n);
       }
 
   pub block-written : HeaderFine (F .header) → {rs : List (List ℕ)} {at end : ℕ} {out to : List ℕ} → BlockCalls F rs at out end to → WrittenBlock F rs at out end to
@@ -238,5 +272,5 @@ module _ (F : RowFormat) (f : Fits (F .columns)) where
       let l : c .line ≡ F .header = cc (p .1) in
       let n : length (c .line) ≡ length (F .header) = ap length l in
       let k : at + (length (c .line) + 1) ≤ length out = omega (arith, ltb-false room (length (F .header)) (p .0), h .some) in
-      let q = records-laid (next-in c k) (w .records) in
+      let q = records-laid (λ r. F .row) (λ r. f) (next-in c k) (w .records) in
       block-laid h q (subst (λ (x : List ℕ). Laid (x ∷ q .rows) at out end to) l (laid-more c k (q .laid)))

@@ -26,7 +26,7 @@ use Rattle.formats.specs.Words.{bytesOf}
 use Rattle.formats.specs.Header.{spacedFrom, phaseHeader, arrivalHeader}
 use Rattle.formats.specs.Phase.{phaseColumns}
 use Rattle.formats.specs.Row.{RowFormat}
-use Rattle.formats.specs.Format.{phaseFormat, arrivalFormat, otherFormats, allColumns, tableColumns, Place, placeAt, placeIn, placeOf, formatOf, firstRow, HeaderPut, Formed}
+use Rattle.formats.specs.Format.{phaseFormat, otherFormats, phaseBlock, arrivalBlock, allColumns, tableColumns, Place, placeAt, placeIn, placeOf, formatOf, firstRow, headerOf, blockOf, HeaderPut, Formed}
 use Rattle.formats.specs.declared.format.Format.{Format}
 use Rattle.formats.proofs.laws.BlockLine.{trim-other}
 
@@ -38,55 +38,45 @@ pub record HeaderFine (header : List ℕ) : Type 0 where
   pub text : Clear false header
   pub own : isHeader header header ≡ true
 
-record Known (F : RowFormat) : Type 0 where
-  fits : Fits (F .columns)
-  header : HeaderFine (F .header)
+-- the test of a header, and of all formats
+abbrev fineHeader : List ℕ → Bool
+fineHeader h = leb 1 (length h) && (allText h && ltb 32 (getD h (length h - 1) 0))
 
--- the test of one, and of all
-abbrev known : RowFormat → Bool
-known F =
-    fits (F .columns)
-    && (leb 1 (length (F .header)) && (allText (F .header) && ltb 32 (getD (F .header) (length (F .header) - 1) 0)))
-
-abbrev allKnown : List RowFormat → Bool
-allKnown [] = true
-allKnown (F ∷ Fs) = known F && allKnown Fs
+abbrev allFit : List RowFormat → Bool
+allFit [] = true
+allFit (F ∷ Fs) = fits (F .columns) && allFit Fs
 
 header-own : (h : List ℕ) → 1 ≤ length h → 32 < getD h (length h - 1) 0 → isHeader h h ≡ true
 header-own h n l =
     let e : trimEnd h ≡ h = rw (take-all (length h) h (omega arith)) at (trim-other h (length h) (omega arith) (omega arith) (λ q. omega arith)) in
     rw e (same-self h)
 
-known-of : (F : RowFormat) → T (known F) → Known F
-known-of F t =
-    let h = F .header in
-    let p = T-and (fits (F .columns)) _ t in
-    let q = T-and (leb 1 (length h)) _ (p .1) in
+fine-of : (h : List ℕ) → T (fineHeader h) → HeaderFine h
+fine-of h t =
+    let q = T-and (leb 1 (length h)) _ t in
     let r = T-and (allText h) (ltb 32 (getD h (length h - 1) 0)) (q .1) in
     let n = leb→le 1 (length h) (q .0) in
     let l = ltb-true 32 (getD h (length h - 1) 0) (T-true _ (r .1)) in
-    record { fits = fits-of (F .columns) (p .0); header = record { some = n; text = text-clear h (r .0); own = header-own h n l } }
+    record { some = n; text = text-clear h (r .0); own = header-own h n l }
 
-either : (P : Place → Type 0) (t : Bool) (x y : Place) → P x → P y → P (pick t x y)
+either : {A : Type 0} (P : A → Type 0) (t : Bool) (x y : A) → P x → P y → P (pick t x y)
 either P true x y a b = a
 either P false x y a b = b
 
-place-known : (kind first : ℕ) (Fs : List RowFormat) → T (known phaseFormat) → T (allKnown Fs) → Known (placeIn kind first Fs .format)
-place-known kind first [] p t = known-of phaseFormat p
-place-known kind first (F ∷ Fs) p t =
-    let q = T-and (known F) (allKnown Fs) t in
-    either (λ p. Known (p .format)) (eqb kind (F .kind)) (placeAt F first) _ (known-of F (q .0)) (place-known kind (first + length (F .columns)) Fs p (q .1))
+place-fits : (kind first : ℕ) (Fs : List RowFormat) → T (fits (phaseFormat .columns)) → T (allFit Fs) → Fits (placeIn kind first Fs .format .columns)
+place-fits kind first [] p t = fits-of (phaseFormat .columns) p
+place-fits kind first (F ∷ Fs) p t =
+    let q = T-and (fits (F .columns)) (allFit Fs) t in
+    either (λ (p : Place). Fits (p .format .columns)) (eqb kind (F .kind)) (placeAt F first) _ (fits-of (F .columns) (q .0)) (place-fits kind (first + length (F .columns)) Fs p (q .1))
 
--- each format is tested by computing, here alone
-format-known : (kind : ℕ) → Known (formatOf kind)
-unfolding formatOf phaseHeader arrivalHeader spacedFrom bytesOf
-format-known kind = place-known kind (length phaseColumns) otherFormats tt tt
-
+-- each format and each header is tested by computing, here alone
 pub format-fits : (kind : ℕ) → Fits (formatOf kind .columns)
-format-fits kind = format-known kind .fits
+unfolding formatOf
+format-fits kind = place-fits kind (length phaseColumns) otherFormats tt tt
 
-pub header-fine : (kind : ℕ) → HeaderFine (formatOf kind .header)
-header-fine kind = format-known kind .header
+pub header-fine : (kind : ℕ) → HeaderFine (headerOf kind)
+unfolding headerOf phaseHeader arrivalHeader spacedFrom bytesOf
+header-fine kind = either HeaderFine (eqb kind 5) arrivalHeader phaseHeader (fine-of arrivalHeader tt) (fine-of phaseHeader tt)
 
 -- each format is the one that its record's kind names
 abbrev pub named : List RowFormat → List RowFormat
@@ -97,14 +87,27 @@ pub kinds-name : named (phaseFormat ∷ otherFormats) ≡ phaseFormat ∷ otherF
 unfolding formatOf
 kinds-name = refl
 
--- the places of the formats, by what the code knows of a kind
-pub arrival-place : (kind : ℕ) → kind ≡ 5 → placeOf kind ≡ placeAt arrivalFormat (length phaseColumns)
-arrival-place kind e = rw e
+-- and so each block
+pub blocks-name : (blockOf 3 ≡ phaseBlock) × (blockOf 5 ≡ arrivalBlock)
+unfolding formatOf headerOf
+blocks-name = (refl, refl)
 
-pub phase-place : (kind : ℕ) → (kind ≡ 5 → ⊥) → placeOf kind ≡ placeAt phaseFormat 0
-phase-place kind n = rw (ne-eqb kind 5 n)
+-- the place of a format by its kind; a number that names none of some formats
+pub place-is : (kind k : ℕ) (p : Place) → kind ≡ k → placeOf k ≡ p → placeOf kind ≡ p
+place-is kind k p e q = ap placeOf e ∙ q
 
--- ---- a format and a header as the code gives them for a kind
+pub data NoKind (kind : ℕ) : List RowFormat → Type 0 where
+  noFormats : NoKind kind []
+  notThis : {F : RowFormat} {Fs : List RowFormat} → (kind ≡ F .kind → ⊥) → NoKind kind Fs → NoKind kind (F ∷ Fs)
+
+no-place : (kind first : ℕ) {Fs : List RowFormat} → NoKind kind Fs → placeIn kind first Fs ≡ placeAt phaseFormat 0
+no-place kind first noFormats = refl
+no-place kind first (notThis {F = F} n p) = rw (ne-eqb kind (F .kind) n) (no-place kind (first + length (F .columns)) p)
+
+pub phase-place : (kind : ℕ) → NoKind kind otherFormats → placeOf kind ≡ placeAt phaseFormat 0
+phase-place kind p = no-place kind (length phaseColumns) p
+
+-- ---- a format as the code gives it for a kind
 
 module _ (kind : ℕ) (F : RowFormat) (first : ℕ) (p : placeOf kind ≡ placeAt F first) where
   format-is : formatOf kind ≡ F
@@ -126,9 +129,18 @@ module _ (kind : ℕ) (F : RowFormat) (first : ℕ) (p : placeOf kind ≡ placeA
         fits = format-fits kind;
       }
 
-  pub header-put : (n : ℕ) (from to : List ℕ) → n ≡ length (F .header) → to ≡ over (F .header) from → HeaderPut kind n from to
-  header-put n from to e f =
-      record { size = rw format-is e; room = omega (arith, ap length f ∙ length-append (F .header) (drop (length (F .header)) from)); bytes = rw format-is f }
+-- a header as the code has it
+pub header-put : (kind : ℕ) (h : List ℕ) → headerOf kind ≡ h → (n : ℕ) (from to : List ℕ) → n ≡ length h → to ≡ over h from → HeaderPut kind n from to
+header-put kind h p n from to e f =
+    record { size = rw p e; room = omega (arith, ap length f ∙ length-append h (drop (length h) from)); bytes = rw p f }
+
+pub arrival-header : (kind : ℕ) → kind ≡ 5 → headerOf kind ≡ arrivalHeader
+unfolding headerOf
+arrival-header kind e = rw e
+
+pub phase-header : (kind : ℕ) → (kind ≡ 5 → ⊥) → headerOf kind ≡ phaseHeader
+unfolding headerOf
+phase-header kind n = rw (ne-eqb kind 5 n)
 
 -- ---- the code's table
 

@@ -3,6 +3,7 @@ use mathlib.Core.Path.{_≡_, refl, sym, ap, _∙_}
 use mathlib.Core.Bool.{Bool, true, false}
 use mathlib.Core.List.{List, [], _∷_, _++_, append-assoc, append-nil}
 use Prim.Native.Nat.{ℕ, zero, suc, _+_, _-_, _*_, _^_, _≤_, _<_}
+use native.Mathlib.Nat.{mul-suc}
 use native.Mathlib.Numerals.{add-one}
 use native.Mathlib.Omega.{arith}
 use lib.ListN.{length, take, drop, getD, set, length-append}
@@ -23,7 +24,7 @@ use Rattle.columns.proofs.laws.Places.{placed-length, placed-placed, part-place
 use Rattle.columns.proofs.laws.Word.{word-length}
 use Rattle.columns.proofs.laws.Table.{flags-length, values-length, flags-last, values-last}
 use Rattle.columns.proofs.laws.Answers.{over-whole}
-use Rattle.formats.specs.Record.{patternOf, signedOf, allOnes, topBit, valueBytes, packed, slotsIn}
+use Rattle.formats.specs.Record.{patternOf, signedOf, allOnes, topBit, wordsBy, valueBytes, packed, slotsIn}
 
 -- ---- signs
 
@@ -67,43 +68,58 @@ module _ (u : ℕ) (h : topBit ≤ u) (k : u ≤ allOnes) where
   pub signed-high : toZ w64 (ofZ w64 (negsuc 0 -ℤ toZ w64 (allOnes - u))) ≡ signedOf u
   signed-high = rw (less-is, toZ-ofZ w64 (negsuc (allOnes - u)) less-fits, le-ltb u topBit h)
 
+-- ---- numbers of w bytes each
+
+module _ {A : Type 0} (w : ℕ) (word : A → ℕ) where
+  words-append : (a b : List A) → wordsBy w word (a ++ b) ≡ wordsBy w word a ++ wordsBy w word b
+  unfolding wordsBy
+  words-append [] b = refl
+  words-append (x ∷ a) b = rw (words-append a b, append-assoc)
+
+  pub words-length : (xs : List A) → length (wordsBy w word xs) ≡ w * length xs
+  unfolding wordsBy
+  words-length [] = omega arith
+  words-length (x ∷ xs) =
+      let m : w * suc (length xs) ≡ w * length xs + w = mul-suc w (length xs) in
+      length-append (wordBytes w (word x)) (wordsBy w word xs) ∙ omega (arith, word-length w (word x), words-length xs, m)
+
+  words-one : (x : A) → wordsBy w word (x ∷ []) ≡ wordBytes w (word x)
+  unfolding wordsBy
+  words-one x = append-nil (wordBytes w (word x))
+
+  words-more : (d : A) (xs : List A) (i : ℕ) → i < length xs → wordsBy w word (take (i + 1) xs) ≡ wordsBy w word (take i xs) ++ wordBytes w (word (getD xs i d))
+  words-more d xs i h =
+      let e : take (i + 1) xs ≡ take i xs ++ (getD xs i d ∷ []) = rw add-one (take-suc xs i d h) in
+      ap (wordsBy w word) e ∙ words-append (take i xs) (getD xs i d ∷ []) ∙ rw (words-one (getD xs i d))
+
+  -- one more, after the first i
+  pub words-turn : (d : A) (xs : List A) (l out ys : List ℕ) (i at n : ℕ) → i < length xs → length (wordsBy w word (take i xs)) ≡ at → at + w ≤ length l → out ≡ over (wordsBy w word (take i xs)) l → n ≡ word (getD xs i d) → ys ≡ wordBytes (length (midOf at (at + w - at) out)) n → putMid at (at + w - at) out ys ≡ over (wordsBy w word (take (i + 1) xs)) l
+  words-turn d xs l out ys i at n h b k q p r =
+      let o : length out ≡ length l = ap length q ∙ placed-length 0 (wordsBy w word (take i xs)) l (omega arith) in
+      let m : length (midOf at (at + w - at) out) ≡ w = mid-len at (at + w) out (omega arith) ∙ omega arith in
+      let y : ys ≡ wordBytes w (word (getD xs i d)) = r ∙ rw (m, p) in
+      let v : length ys ≡ w = ap length y ∙ word-length w (word (getD xs i d)) in
+      let z : at ≡ 0 + length (wordsBy w word (take i xs)) = omega arith in
+      part-placed at (at + w) ys out (omega arith)
+      ∙ ap (placed at ys) q
+      ∙ placed-placed 0 at (wordsBy w word (take i xs)) ys l z (omega arith)
+      ∙ ap (λ (x : List ℕ). over x l) (ap (λ (x : List ℕ). wordsBy w word (take i xs) ++ x) y ∙ sym (words-more d xs i h))
+
+  pub words-end : (xs : List A) (l out : List ℕ) (i : ℕ) → length xs ≤ i → out ≡ over (wordsBy w word (take i xs)) l → out ≡ over (wordsBy w word xs) l
+  words-end xs l out i k q = q ∙ ap (λ (x : List A). over (wordsBy w word x) l) (take-all i xs k)
+
 -- ---- the bytes of values
 
-pub bytes-append : (a b : List ℤ) → valueBytes (a ++ b) ≡ valueBytes a ++ valueBytes b
-unfolding valueBytes
-bytes-append [] b = refl
-bytes-append (v ∷ a) b = rw (bytes-append a b, append-assoc)
-
 pub bytes-length : (vs : List ℤ) → length (valueBytes vs) ≡ 8 * length vs
-unfolding valueBytes
-bytes-length [] = refl
-bytes-length (v ∷ vs) = length-append (wordBytes 8 (patternOf v)) (valueBytes vs) ∙ omega (arith, word-length 8 (patternOf v), bytes-length vs)
-
-bytes-one : (v : ℤ) → valueBytes (v ∷ []) ≡ wordBytes 8 (patternOf v)
-unfolding valueBytes
-bytes-one v = append-nil (wordBytes 8 (patternOf v))
-
-bytes-more : (vs : List ℤ) (i : ℕ) → i < length vs → valueBytes (take (i + 1) vs) ≡ valueBytes (take i vs) ++ wordBytes 8 (patternOf (getD vs i (pos 0)))
-bytes-more vs i h =
-    let e : take (i + 1) vs ≡ take i vs ++ (getD vs i (pos 0) ∷ []) = rw add-one (take-suc vs i (pos 0) h) in
-    ap valueBytes e ∙ bytes-append (take i vs) (getD vs i (pos 0) ∷ []) ∙ rw (bytes-one (getD vs i (pos 0)))
+bytes-length vs = words-length 8 patternOf vs
 
 -- a value more, after the first i
 pub values-turn : (vs : List ℤ) (l out ys : List ℕ) (i at : ℕ) (n : ℕ) → i < length vs → 8 * length vs ≤ length l → at ≡ 8 * i → out ≡ over (valueBytes (take i vs)) l → n ≡ patternOf (getD vs i (pos 0)) → ys ≡ wordBytes (length (midOf at (at + 8 - at) out)) n → putMid at (at + 8 - at) out ys ≡ over (valueBytes (take (i + 1) vs)) l
 values-turn vs l out ys i at n h k e q p r =
-    let b : length (valueBytes (take i vs)) ≡ at = bytes-length (take i vs) ∙ omega (arith, length-take-le i vs (omega arith)) in
-    let o : length out ≡ length l = ap length q ∙ placed-length 0 (valueBytes (take i vs)) l (omega arith) in
-    let m : length (midOf at (at + 8 - at) out) ≡ 8 = mid-len at (at + 8) out (omega arith) ∙ omega arith in
-    let y : ys ≡ wordBytes 8 (patternOf (getD vs i (pos 0))) = r ∙ rw (m, p) in
-    let w : length ys ≡ 8 = ap length y ∙ word-length 8 (patternOf (getD vs i (pos 0))) in
-    let z : at ≡ 0 + length (valueBytes (take i vs)) = omega arith in
-    part-placed at (at + 8) ys out (omega arith)
-    ∙ ap (placed at ys) q
-    ∙ placed-placed 0 at (valueBytes (take i vs)) ys l z (omega arith)
-    ∙ ap (λ (x : List ℕ). over x l) (ap (λ (x : List ℕ). valueBytes (take i vs) ++ x) y ∙ sym (bytes-more vs i h))
+    words-turn 8 patternOf (pos 0) vs l out ys i at n h (bytes-length (take i vs) ∙ omega (arith, length-take-le i vs (omega arith))) (omega arith) q p r
 
 pub values-end : (vs : List ℤ) (l out : List ℕ) (i : ℕ) → i ≤ length vs → length vs ≤ i → out ≡ over (valueBytes (take i vs)) l → out ≡ over (valueBytes vs) l
-values-end vs l out i h k q = q ∙ ap (λ (x : List ℤ). over (valueBytes x) l) (take-all i vs k)
+values-end vs l out i h k q = words-end 8 patternOf vs l out i k q
 
 -- ---- a whole record, part by part
 

@@ -21,7 +21,7 @@ use Rattle.columns.proofs.laws.Table.{flags-length, values-length, flags-cons, 
 use Rattle.columns.proofs.laws.Tests.{both-true}
 use Rattle.columns.specs.Word.{wordBytes, wordOf}
 use Rattle.columns.specs.Bytes.{sameBytes}
-use Rattle.formats.specs.Record.{patternOf, signedOf, topBit, allOnes, valueBytes, slotsIn}
+use Rattle.formats.specs.Record.{patternOf, signedOf, topBit, allOnes, wordsBy, valueBytes, slotsIn}
 use Rattle.formats.specs.Row.{RowFormat, readRow, writeRow, rowBytes, rowIn, namedRow, readRowRecord, rowAnswer, readRowInto, rowLineAnswer, writeRowFrom}
 use Rattle.columns.proofs.laws.Bytes.{same-is, same-self}
 use Rattle.columns.proofs.laws.Word.{word-length, word-back}
@@ -48,7 +48,7 @@ value-small missing h = omega arith
 value-small (given v) h = h
 
 numbers-back : (ns : List Slot) (fs t : List ℕ) → SmallSlots ns → slotsIn (length ns) (flagsOf ns ++ fs) (valueBytes (valuesOf ns) ++ t) ≡ ns
-unfolding slotsIn valueBytes
+unfolding slotsIn wordsBy
 numbers-back [] fs t s = refl
 numbers-back (x ∷ ns) fs t s =
     let b : List ℕ = wordBytes 8 (patternOf (valueOf x)) in

@@ -1,4 +1,4 @@
-use Rattle.formats.specs.Format.{formatOf}
+use Rattle.formats.specs.Format.{headerOf}
 use Rattle.rotmibel.specs.Answers.{lineNumber}
 use Rattle.rotmibel.proofs.laws.Answers.{line-number, met-small}
 use native.Mathlib.Omega.{arith}
@@ -9,20 +9,20 @@ use Rattle.rotmibel.proofs.met_number.Tie as tie
 
 mul-parts-of : tie.Need-mul-parts-of
 mul-parts-of c =
-    let w = line-number (c .before .met-line .result) _ (c .before .met-line .ensures) (met-small (formatOf (c .before .before .before .args .kind) .header) (c .before .before .before .args .block .now) (c .before .before .before .args .before)) in
+    let w = line-number (c .before .met-line .result) _ (c .before .met-line .ensures) (met-small (headerOf (c .before .before .before .args .kind)) (c .before .before .before .args .block .now) (c .before .before .before .args .before)) in
     let n = w .next in
     omega (arith, n)
 
 add-parts-of : tie.Need-add-parts-of
 add-parts-of c =
-    let w = line-number (c .before .before .met-line .result) _ (c .before .before .met-line .ensures) (met-small (formatOf (c .before .before .before .before .args .kind) .header) (c .before .before .before .before .args .block .now) (c .before .before .before .before .args .before)) in
+    let w = line-number (c .before .before .met-line .result) _ (c .before .before .met-line .ensures) (met-small (headerOf (c .before .before .before .before .args .kind)) (c .before .before .before .before .args .block .now) (c .before .before .before .before .args .before)) in
     let n = w .next in
     let e = w .end in
     omega (arith, n, e)
 
 parts-of-requires : tie.Need-parts-of-requires
 parts-of-requires c κs =
-    let w = line-number (c .before .before .met-line .result) _ (c .before .before .met-line .ensures) (met-small (formatOf (c .before .before .before .before .args .kind) .header) (c .before .before .before .before .args .block .now) (c .before .before .before .before .args .before)) in
+    let w = line-number (c .before .before .met-line .result) _ (c .before .before .met-line .ensures) (met-small (headerOf (c .before .before .before .before .args .kind)) (c .before .before .before .before .args .block .now) (c .before .before .before .before .args .before)) in
     let n = w .next in
     let e = w .end in
     (w .number, omega (arith, n, e))

@@ -1,4 +1,4 @@
-use Rattle.formats.specs.Format.{formatOf}
+use Rattle.formats.specs.Format.{formatOf, headerOf}
 use Rattle.formats.specs.Row.{readRow}
 use Rattle.formats.proofs.laws.Block.{reading-refused, reading-closing, reading-next, Reading, reading-start, reading-end}
 use Rattle.formats.proofs.laws.BlockReader.{FoundAt, found-at, end-at, starts-in, ends-in, next-after}
@@ -11,7 +11,7 @@ use Rattle.formats.proofs.block.read_lines.Statement.{statement}
 use Rattle.formats.proofs.block.read_lines.Tie as tie
 
 abbrev Inv-loop : tie.InvT-loop
-Inv-loop kind block from at₀ line₀ rows₀ comments₀ at line rows comments = Reading (formatOf kind .header) (readRow (formatOf kind .columns)) block from at line rows comments
+Inv-loop kind block from at₀ line₀ rows₀ comments₀ at line rows comments = Reading (headerOf kind) (readRow (formatOf kind .columns)) block from at line rows comments
 
 abbrev μ-loop : tie.MeasureT-loop
 μ-loop kind block from at₀ line₀ rows₀ comments₀ at line rows comments = length block - at

@@ -1,6 +1,6 @@
 use Rattle.formats.specs.BlockWriting.{writeHeader, headerCall}
 use Rattle.formats.proofs.laws.BlockWriter.{header-past, call-fits, call-replied}
-use Rattle.formats.specs.Format.{formatOf}
+use Rattle.formats.specs.Format.{headerOf}
 use Rattle.formats.proofs.laws.Format.{header-fine}
 use native.Mathlib.Omega.{arith}
 use borrow.Author.Needs.{needs}
@@ -14,13 +14,13 @@ from-place-requires : tie.Need-from-place-requires
 from-place-requires c κs =
     let a = c .before .before .before .before .before .before .args in
     let w = c .before .before .header-line in
-    omega (arith, call-fits (writeHeader (formatOf (a .kind) .header)) (a .at) (a .out .now) (c .before .before .before .before .if1 .left) (w .result) _ (w .ensures) (w .kept .1 .0))
+    omega (arith, call-fits (writeHeader (headerOf (a .kind))) (a .at) (a .out .now) (c .before .before .before .before .if1 .left) (w .result) _ (w .ensures) (w .kept .1 .0))
 
 returns-2 : tie.Need-returns-2
 unfolding headerCall
 returns-2 c =
     let w = c .before .before .before .header-line in
-    call-replied (writeHeader (formatOf _ .header)) _ _ (c .before .before .before .before .before .if1 .left) (w .result) _ (w .ensures) (w .kept .1 .0) _ (c .from-place .ensures)
+    call-replied (writeHeader (headerOf _)) _ _ (c .before .before .before .before .before .if1 .left) (w .result) _ (w .ensures) (w .kept .1 .0) _ (c .from-place .ensures)
 
 pub write-header-spec : {M : Type 1} → statement M
 write-header-spec =

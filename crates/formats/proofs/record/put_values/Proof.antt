@@ -1,7 +1,7 @@
 use mir.Syntax.{w64}
 use mir.ValLaws.{toZ-ofZ}
 use lib.IntN.{pos}
-use Rattle.formats.specs.Record.{patternOf, valueBytes}
+use Rattle.formats.specs.Record.{patternOf, wordsBy, valueBytes}
 use Rattle.columns.specs.Table.{over}
 use Prim.Native.Nat.{_*_, _≤_, _-_}
 use Rattle.formats.proofs.laws.Record.{values-turn, values-end}
@@ -18,7 +18,7 @@ abbrev μ-loop : tie.MeasureT-loop
 μ-loop out₀ values i₀ out i = length values - i
 
 loop-holds : tie.Need-loop-holds Inv-loop μ-loop
-unfolding valueBytes
+unfolding wordsBy
 loop-holds c = (search needs, search needs, refl)
 
 loop-again : tie.Need-loop-again Inv-loop μ-loop
