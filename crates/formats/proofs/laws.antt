@@ -28,3 +28,4 @@ pub mod BlockWalk
 pub mod BlockBounds
 pub mod Lettered
 pub mod Run
+pub mod RunWalk

@@ -22,4 +22,6 @@ pub mod Lettered
 pub mod Cards
 pub mod Run
 pub mod RunSteps
+pub mod RunWalk
+pub mod RunWriting
 pub mod Numbers

@@ -20,8 +20,8 @@ pub const COMMENT_LINE: u8 = 42;
 
 pub const CLOSING_LINE: u8 = 43;
 
-// The largest number of rows before a line.
-const MOST: usize = 65534;
+// The largest number of rows, or of events, before a line.
+pub const MOST: usize = 65534;
 
 // A line of a block: its kind; the number, from 1, of the row that it is or that it belongs to; its end; and the place
 // after it.
@@ -33,7 +33,7 @@ pub struct BlockLine {
 }
 
 // No line, or the number of a refusal.
-fn no_line(number: u8) -> BlockLine
+pub fn no_line(number: u8) -> BlockLine
     ensures { λ r. ⌜ r ≡ nothing number ⌝ }
 {
     BlockLine {

@@ -1,20 +1,24 @@
 // Lines by their first letter: tables of the kinds' letters and of which may come where, the kinds of their records numbered from
 // `first` on.
 use super::Reply;
+use super::block_writer::write_record;
 use super::format::format_of;
 use super::lines::scan_end;
 use super::row::judge_row;
 use super::row::read_row_into;
+use super::row::write_row_from;
 use columns::Outcome;
 use columns::bytes::first_barred;
 ghost use mathlib.Core.Path.{_≡_};
 ghost use mathlib.Core.List.{List};
 ghost use Prim.Native.Nat.{ℕ, _+_, _≤_};
-ghost use lib.ListN.{length};
+ghost use lib.ListN.{length, getD};
 ghost use Rattle.columns.specs.Table.{outcomeOf};
 ghost use Rattle.formats.specs.Record.{Replied};
 ghost use Rattle.formats.specs.Format.{formatOf};
-ghost use Rattle.formats.specs.Lettered.{kindsAt, readPlaced, readLetteredInto};
+ghost use Rattle.formats.specs.Lettered.{Lettered, kindsOf, kindsAt, kindIn, readPlaced, readLetteredInto, writeLettered};
+ghost use Rattle.formats.specs.BlockWriting.{RepliedFrom};
+ghost use Rattle.formats.specs.RunWriting.{letteredCall};
 ghost use Rattle.formats.specs.RunSteps.{Leads};
 
 // What a line's first letter says: the letter and the place of its kind, or the number of a refusal and its column.
@@ -77,4 +81,51 @@ pub fn read_lettered_into(
         Lead::Refused(number, column) => Reply::Refused(number, column),
         Lead::Kind(_, i) => read_row_into(first + (i as u8), line, out),
     }
+}
+
+// The first byte, 0 where there is none.
+fn first_byte(s: &[u8]) -> u8
+    ensures { λ r. ⌜ r ≡ getD (now (s .entry)) 0 0 ⌝ }
+{
+    if s.len() == 0 {
+        return 0;
+    }
+    s[0]
+}
+
+// The kind of a record by its first byte: the first kind where that is none's.
+fn kind_in(letters: &[u8], first: u8, from: &[u8]) -> u8
+    requires { ⌜ first + length (now letters) ≤ 256 ⌝ }
+    ensures { λ r. ⌜ ((ranks afters : List ℕ) (L : Lettered) → kindsAt (now (letters .entry)) ranks afters first ≡ kindsOf L → r ≡ kindIn L (now (from .entry)) .kind) ⌝ }
+{
+    let k = first_byte(from);
+    if k < first {
+        return first;
+    }
+    if letters.len() <= (k - first) as usize {
+        return first;
+    }
+    k
+}
+
+// A line written from the record of its kind, over the first bytes of `out`. Nothing is changed where it is refused.
+pub fn write_lettered(letters: &[u8], first: u8, from: &[u8], out: &mut [u8]) -> Reply
+    requires { ⌜ first + length (now letters) ≤ 256 ⌝ }
+    ensures { λ r. ⌜ ((ranks afters : List ℕ) (L : Lettered) → kindsAt (now (letters .entry)) ranks afters first ≡ kindsOf L → Replied (writeLettered L (now (from .entry)) (length (now (out .entry)))) r (now (out .entry)) (now (out .exit))) ⌝ }
+{
+    write_row_from(kind_in(letters, first, from), from, out)
+}
+
+// The same with a newline, from place `at` of `out` on; answers the place after it.
+pub fn write_lettered_record(
+    letters: &[u8],
+    first: u8,
+    from: &[u8],
+    out: &mut [u8],
+    at: usize,
+) -> Reply
+    requires { ⌜ first + length (now letters) ≤ 256 ⌝ }
+    ensures { λ r. ⌜ ((ranks afters : List ℕ) (L : Lettered) → kindsAt (now (letters .entry)) ranks afters first ≡ kindsOf L → RepliedFrom at (letteredCall L (now (from .entry)) at (length (now (out .entry)))) r (now (out .entry)) (now (out .exit))) ⌝ }
+{
+    write_record(kind_in(letters, first, from), from, out, at)
 }

@@ -17,6 +17,7 @@ pub mod ranges;
 pub mod record;
 pub mod row;
 pub mod run;
+pub mod run_walk;
 pub mod table;
 
 // The numbers answered for a line, beside those of its columns (document 01, "Numbers answered").

@@ -3,13 +3,13 @@
 use mathlib.Core.Path.{_≡_, refl, sym, ap, _∙_}
 use mathlib.Core.Bool.{Bool, true, false}
 use mathlib.Core.List.{List, [], _∷_}
-use Prim.Native.Nat.{ℕ, suc, _+_, _≤_, _<_}
+use Prim.Native.Nat.{ℕ, suc, _+_, _-_, _≤_, _<_}
 use native.Mathlib.Omega.{arith}
 use lib.Dec.{eqb, leb}
 use lib.ListN.{length, drop, getD}
 use lib.Seq.{getD-drop}
 use borrow.Author.Tests.{eq-eqb, ne-eqb, eqb-true, eqb-false, lt-ltb, le-ltb}
-use Rattle.columns.specs.Answer.{Answer, ok, refusal, wrongLength, barredByte, tooShort}
+use Rattle.columns.specs.Answer.{pick, Answer, ok, refusal, wrongLength, barredByte, tooShort}
 use Rattle.columns.specs.Column.{Rec, Col, widths}
 use Rattle.columns.specs.Table.{outcomeOf}
 use Rattle.columns.specs.declared.Outcome.{Outcome}
@@ -17,10 +17,12 @@ use Rattle.columns.proofs.laws.Answers.{differs-is, differs-not}
 use Rattle.formats.specs.Cube.{wrongType}
 use Rattle.formats.specs.Lines.{upTo, endFrom}
 use Rattle.formats.specs.Record.{Replied}
-use Rattle.formats.specs.Row.{lowestBarredByte, readRow, readRowInto}
+use Rattle.formats.specs.Row.{lowestBarredByte, readRow, readRowInto, writeRowFrom}
 use Rattle.formats.specs.Block.{outOfPlace}
 use Rattle.formats.specs.Format.{formatOf}
-use Rattle.formats.specs.Lettered.{LineKind, named, leading, readPlaced, intoRecord, readLetteredInto, kindsAt}
+use Rattle.formats.specs.BlockWriting.{recordCall, RepliedFrom}
+use Rattle.formats.specs.RunWriting.{letteredCall}
+use Rattle.formats.specs.Lettered.{LineKind, Lettered, kindsOf, named, leading, readPlaced, intoRecord, readLetteredInto, numbered, kindIn, writeLettered, kindsAt}
 use Rattle.formats.specs.RunSteps.{kindAt, Leads, steppedBy, stepOf}
 use Rattle.formats.specs.declared.Reply.{Reply}
 use Rattle.formats.proofs.laws.Lines.{upto-nil, upto-stop, upto-more}
@@ -60,7 +62,7 @@ module _ (b : ℕ) where
       (kind-later x xs ranks afters first (λ j. ok (kindAt ranks afters first b (suc j))) n
       (f g ∙ rw (getD-drop 1 ranks i 0, getD-drop 1 afters i 0, y, z)))
 
-  kind-found : (letters ranks afters : List ℕ) (first : ℕ) → length (upTo b letters) < length letters → named (kindsAt letters ranks afters first) b ≡ ok (kindAt ranks afters first b (length (upTo b letters)))
+  pub kind-found : (letters ranks afters : List ℕ) (first : ℕ) → length (upTo b letters) < length letters → named (kindsAt letters ranks afters first) b ≡ ok (kindAt ranks afters first b (length (upTo b letters)))
   kind-found [] ranks afters first h = absurd (omega arith)
   kind-found (x ∷ xs) ranks afters first h = kind-by (eqb x b) x xs ranks afters first refl (kind-found xs (drop 1 ranks) (drop 1 afters) (first + 1)) h
 
@@ -70,14 +72,14 @@ module _ (b : ℕ) where
       let n = eqb-false x b p in
       kind-later x xs ranks afters first (λ j. refusal wrongType 1) n (f (omega (arith, ap length (upto-more b x xs n), h)))
 
-  kind-none : (letters ranks afters : List ℕ) (first : ℕ) → length letters ≤ length (upTo b letters) → named (kindsAt letters ranks afters first) b ≡ refusal wrongType 1
+  pub kind-none : (letters ranks afters : List ℕ) (first : ℕ) → length letters ≤ length (upTo b letters) → named (kindsAt letters ranks afters first) b ≡ refusal wrongType 1
   unfolding named kindsAt
   kind-none [] ranks afters first h = refl
   kind-none (x ∷ xs) ranks afters first h = none-by (eqb x b) x xs ranks afters first refl (kind-none xs (drop 1 ranks) (drop 1 afters) (first + 1)) h
 
 -- ---- what a line's first letter says, as the code comes to it
 
-end-place : (b : ℕ) (letters : List ℕ) → endFrom b letters 0 ≡ length (upTo b letters)
+pub end-place : (b : ℕ) (letters : List ℕ) → endFrom b letters 0 ≡ length (upTo b letters)
 unfolding endFrom
 end-place b letters = omega arith
 
@@ -184,3 +186,61 @@ module _ (ks : List LineKind) (most : ℕ) (l out : List ℕ) where
 
     pub into-kind : (k : LineKind) → leading ks l ≡ ok k → {r : Reply} {to : List ℕ} → Replied (readRowInto (formatOf (k .kind)) l (length out)) r out to → Replied (readLetteredInto ks most l (length out)) r out to
     into-kind k e w = replied-as _ _ _ out _ (sym (into-led ∙ ap (λ (x : Answer LineKind). intoRecord x l (length out)) e)) w
+
+-- ---- the kind of a record by its first byte
+
+either-kind : (t : Bool) (b first : ℕ) (k y : LineKind) → eqb b first ≡ t → k .kind ≡ first → ((b ≡ first → ⊥) → y .kind ≡ b) → pick t k y .kind ≡ b
+either-kind true b first k y p q f = q ∙ sym (eqb-true b first p)
+either-kind false b first k y p q f = f (eqb-false b first p)
+
+module _ (x : LineKind) where
+  numbered-none : (letters ranks afters : List ℕ) (first b : ℕ) → ((i : ℕ) → i < length letters → b ≡ first + i → ⊥) → numbered x (kindsAt letters ranks afters first) b ≡ x
+  unfolding numbered kindsAt
+  numbered-none [] ranks afters first b n = refl
+  numbered-none (l ∷ ls) ranks afters first b n =
+      rw (ne-eqb b first (λ e. n 0 (omega arith) (omega (arith, e)))) (numbered-none ls (drop 1 ranks) (drop 1 afters) (first + 1) b (λ i h e. n (suc i) (omega arith) (omega (arith, e))))
+
+  numbered-kind : (letters ranks afters : List ℕ) (first b : ℕ) → first ≤ b → b < first + length letters → numbered x (kindsAt letters ranks afters first) b .kind ≡ b
+  unfolding numbered kindsAt
+  numbered-kind [] ranks afters first b h g = absurd (omega arith)
+  numbered-kind (l ∷ ls) ranks afters first b h g =
+      either-kind (eqb b first) b first (record { letter = l; kind = first; rank = getD ranks 0 0; after = getD afters 0 0 }) (numbered x (kindsAt ls (drop 1 ranks) (drop 1 afters) (first + 1)) b) refl refl
+      (λ n. numbered-kind ls (drop 1 ranks) (drop 1 afters) (first + 1) b (omega (arith, n)) (omega arith))
+
+unfoldable headKind : List LineKind → ℕ
+headKind [] = 0
+headKind (k ∷ ks) = k .kind
+
+-- the code's tables are a list of kinds with an opener
+module _ (letters ranks afters : List ℕ) (first : ℕ) (L : Lettered) (same : kindsAt letters ranks afters first ≡ kindsOf L) where
+  opener-kind : L .opener .kind ≡ first
+  unfolding kindsAt headKind
+  opener-kind = by-letters letters same
+    where
+      by-letters : (s : List ℕ) → kindsAt s ranks afters first ≡ kindsOf L → L .opener .kind ≡ first
+      by-letters [] e = let z : _≡_ {A = ℕ} 0 1 = cc in let y : ⊥ = omega arith in absurd y
+      by-letters (b ∷ s) e = sym (ap headKind e)
+
+  module _ (r : List ℕ) where
+    kind-none-in : ((i : ℕ) → i < length letters → getD r 0 0 ≡ first + i → ⊥) → first ≡ kindIn L r .kind
+    kind-none-in n = sym (rw (← same) (ap (λ (k : LineKind). k .kind) (numbered-none (L .opener) letters ranks afters first (getD r 0 0) n) ∙ opener-kind))
+
+    pub kind-low : {k : ℕ} → k ≡ getD r 0 0 → k < first → first ≡ kindIn L r .kind
+    kind-low e h = kind-none-in (λ i g q. omega (arith, e, h, q))
+
+    pub kind-high : {k : ℕ} → k ≡ getD r 0 0 → first ≤ k → length letters ≤ k - first → first ≡ kindIn L r .kind
+    kind-high e h g = kind-none-in (λ i d q. omega (arith, e, h, g, d, q))
+
+    pub kind-within : {k : ℕ} → k ≡ getD r 0 0 → first ≤ k → k - first < length letters → k ≡ kindIn L r .kind
+    kind-within e h g = e ∙ sym (rw (← same) (numbered-kind (L .opener) letters ranks afters first (getD r 0 0) (omega (arith, e, h)) (omega (arith, e, h, g))))
+
+-- ---- a record written by the format of its kind
+
+module _ (L : Lettered) (r : List ℕ) {k : ℕ} (e : k ≡ kindIn L r .kind) {y : Reply} {out to : List ℕ} where
+  pub written-as : (room : ℕ) → Replied (writeRowFrom (formatOf k) r room) y out to → Replied (writeLettered L r room) y out to
+  unfolding writeLettered
+  written-as room w = rw e at w
+
+  pub recorded-as : (at size : ℕ) → RepliedFrom at (recordCall (formatOf k) r at size) y out to → RepliedFrom at (letteredCall L r at size) y out to
+  unfolding letteredCall
+  recorded-as at size w = rw e at w

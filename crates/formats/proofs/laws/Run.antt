@@ -217,48 +217,52 @@ counts-tally (k ∷ ks) ls tally low t = rw (t (k .letter) (low 0), counts-tally
 
 -- ---- the answer for a run, as the code comes to it
 
-module _ (letters ranks afters : List ℕ) (first : ℕ) (s from : List ℕ) (L : Lettered) (same : kindsAt letters ranks afters first ≡ kindsOf L) where
+module _ (letters ranks afters : List ℕ) (first : ℕ) (L : Lettered) (same : kindsAt letters ranks afters first ≡ kindsOf L) where
   letters-are : lettersOf (kindsOf L) ≡ letters
   letters-are = ap lettersOf (sym same) ∙ letters-at letters ranks afters first
 
   size-is : length letters ≡ length (kindsOf L)
   size-is = ap length (sym letters-are) ∙ letters-count (kindsOf L)
 
-  answered : (r : Run) (to : List ℕ) → readRun L s (length from) ≡ r → to ≡ countsAfter L s r from → RunRead L s r from to
-  answered r to e f = record { answer = sym e; bytes = f ∙ ap (λ (x : Run). countsAfter L s x from) (sym e) }
+  pub opener-letter : getD letters 0 0 ≡ L .opener .letter
+  unfolding lettersOf
+  opener-letter = ap (λ (x : List ℕ). getD x 0 0) (sym letters-are)
 
-  pub run-short : length from < 2 * length letters → RunRead L s (R.Refused tooShort 0 0) from from
-  unfolding readRun
-  run-short h =
-      let g : length from < countsSize L = omega (arith, size-is) in
-      answered (R.Refused tooShort 0 0) from (rw (lt-ltb (length from) (countsSize L) g)) refl
+  module _ (s from : List ℕ) where
+    answered : (r : Run) (to : List ℕ) → readRun L s (length from) ≡ r → to ≡ countsAfter L s r from → RunRead L s r from to
+    answered r to e f = record { answer = sym e; bytes = f ∙ ap (λ (x : Run). countsAfter L s x from) (sym e) }
 
-  module _ (h : 2 * length letters ≤ length from) where
-    roomy : countsSize L ≤ length from
-    roomy = omega (arith, size-is)
-
-    pub run-long : 65536 < length s → RunRead L s (R.Refused wrongLength 0 0) from from
+    pub run-short : length from < 2 * length letters → RunRead L s (R.Refused tooShort 0 0) from from
     unfolding readRun
-    run-long g = answered (R.Refused wrongLength 0 0) from (rw (le-ltb (length from) (countsSize L) roomy, lt-ltb 65536 (length s) g)) refl
+    run-short h =
+        let g : length from < countsSize L = omega (arith, size-is) in
+        answered (R.Refused tooShort 0 0) from (rw (lt-ltb (length from) (countsSize L) g)) refl
 
-    module _ (low : length s ≤ 65536) where
-      run-lines : readRun L s (length from) ≡ firstRefused (kindsOf L) 1 atStart (linesOf s) (R.Read (eventsOf L (linesOf s)))
+    module _ (h : 2 * length letters ≤ length from) where
+      roomy : countsSize L ≤ length from
+      roomy = omega (arith, size-is)
+
+      pub run-long : 65536 < length s → RunRead L s (R.Refused wrongLength 0 0) from from
       unfolding readRun
-      run-lines = rw (le-ltb (length from) (countsSize L) roomy, le-ltb 65536 (length s) low)
+      run-long g = answered (R.Refused wrongLength 0 0) from (rw (le-ltb (length from) (countsSize L) roomy, lt-ltb 65536 (length s) g)) refl
 
-      module _ {j : Run} {tally : List ℕ} (d : Judged (kindsAt letters ranks afters first) (linesOf s) j tally) where
-        judged : firstRefused (kindsOf L) 1 atStart (linesOf s) (R.Read 0) ≡ j
-        judged = rw (← same) (sym (d .answer))
+      module _ (low : length s ≤ 65536) where
+        run-lines : readRun L s (length from) ≡ firstRefused (kindsOf L) 1 atStart (linesOf s) (R.Read (eventsOf L (linesOf s)))
+        unfolding readRun
+        run-lines = rw (le-ltb (length from) (countsSize L) roomy, le-ltb 65536 (length s) low)
 
-        pub run-refused : (n c l : ℕ) → j ≡ R.Refused n c l → RunRead L s (R.Refused n c l) from from
-        run-refused n c l e = answered (R.Refused n c l) from (run-lines ∙ refused-or (kindsOf L) 1 atStart (linesOf s) (R.Read 0) _ 0 refl n c l (judged ∙ e)) refl
+        module _ {j : Run} {tally : List ℕ} (d : Judged (kindsAt letters ranks afters first) (linesOf s) j tally) where
+          judged : firstRefused (kindsOf L) 1 atStart (linesOf s) (R.Read 0) ≡ j
+          judged = rw (← same) (sym (d .answer))
 
-        pub run-read : (e : ℕ) → j ≡ R.Read e → ((i : ℕ) → getD letters i 0 < 256) → {to : List ℕ} → to ≡ over (wordsBy 2 (λ (b : ℕ). getD tally b 0) letters) from → RunRead L s (R.Read (getD tally (getD letters 0 0) 0)) from to
-        unfolding lettersOf
-        run-read e q byte {to} w =
-            let t : (b : ℕ) → b < 256 → getD tally b 0 ≡ begun b (linesOf s) = rw q at (d .tally) in
-            let o : getD letters 0 0 ≡ L .opener .letter = ap (λ (x : List ℕ). getD x 0 0) (sym letters-are) in
-            let v : getD tally (getD letters 0 0) 0 ≡ eventsOf L (linesOf s) = t (getD letters 0 0) (byte 0) ∙ ap (λ (b : ℕ). begun b (linesOf s)) o in
-            let k : wordsBy 2 (λ (b : ℕ). getD tally b 0) letters ≡ countBytes (countsOf (kindsOf L) (linesOf s)) =
-            ap (wordsBy 2 (λ (b : ℕ). getD tally b 0)) (sym letters-are) ∙ counts-tally (kindsOf L) (linesOf s) tally (subst (λ (x : List ℕ). (i : ℕ) → getD x i 0 < 256) (sym letters-are) byte) t in
-            rw v (answered (R.Read (eventsOf L (linesOf s))) to (run-lines ∙ read-or (kindsOf L) 1 atStart (linesOf s) (R.Read 0) _ e (judged ∙ q)) (w ∙ rw k))
+          pub run-refused : (n c l : ℕ) → j ≡ R.Refused n c l → RunRead L s (R.Refused n c l) from from
+          run-refused n c l e = answered (R.Refused n c l) from (run-lines ∙ refused-or (kindsOf L) 1 atStart (linesOf s) (R.Read 0) _ 0 refl n c l (judged ∙ e)) refl
+
+          pub run-read : (e : ℕ) → j ≡ R.Read e → ((i : ℕ) → getD letters i 0 < 256) → {to : List ℕ} → to ≡ over (wordsBy 2 (λ (b : ℕ). getD tally b 0) letters) from → RunRead L s (R.Read (getD tally (getD letters 0 0) 0)) from to
+          unfolding lettersOf
+          run-read e q byte {to} w =
+              let t : (b : ℕ) → b < 256 → getD tally b 0 ≡ begun b (linesOf s) = rw q at (d .tally) in
+              let v : getD tally (getD letters 0 0) 0 ≡ eventsOf L (linesOf s) = t (getD letters 0 0) (byte 0) ∙ ap (λ (b : ℕ). begun b (linesOf s)) opener-letter in
+              let k : wordsBy 2 (λ (b : ℕ). getD tally b 0) letters ≡ countBytes (countsOf (kindsOf L) (linesOf s)) =
+              ap (wordsBy 2 (λ (b : ℕ). getD tally b 0)) (sym letters-are) ∙ counts-tally (kindsOf L) (linesOf s) tally (subst (λ (x : List ℕ). (i : ℕ) → getD x i 0 < 256) (sym letters-are) byte) t in
+              rw v (answered (R.Read (eventsOf L (linesOf s))) to (run-lines ∙ read-or (kindsOf L) 1 atStart (linesOf s) (R.Read 0) _ e (judged ∙ q)) (w ∙ rw k))
