@@ -29,3 +29,4 @@ pub mod BlockBounds
 pub mod Lettered
 pub mod Run
 pub mod RunWalk
+pub mod Cards

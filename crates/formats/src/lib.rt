@@ -4,6 +4,7 @@ pub mod block_line;
 pub mod block_reader;
 pub mod block_walk;
 pub mod block_writer;
+pub mod cards;
 pub mod check;
 pub mod cube;
 pub mod cube_record;

@@ -9,15 +9,15 @@ use lib.IntN.{ℤ, pos, negsuc, natAbs}
 use lib.ListN.{length, take, drop, getD, replicate, length-drop, length-replicate, getD-replicate, replicate-append-replicate, drop-of-length-le, take-append-drop}
 use lib.Seq.{length-take-le, drop-cons, drop-drop, getD-take, take-at, drop-at}
 use lib.Dec.{T, leb, ltb, eqb, leb→le}
-use borrow.Author.Tests.{ltb-true, ltb-false, le-ltb, eq-eqb, ne-eqb}
+use borrow.Author.Tests.{ltb-true, ltb-false, le-ltb, eq-eqb, ne-eqb, eqb-true}
 use Rattle.columns.specs.Answer.{pick, ok, refusal, notBlank, requiredBlank, badForm, outOfRange, tooWide, tooShort}
 use Rattle.columns.specs.declared.number.Form.{Form}
 use Rattle.columns.specs.declared.group.Group.{Group}
-use Rattle.columns.specs.Bytes.{skip, allBlank}
+use Rattle.columns.specs.Bytes.{isNone, skip, allBlank}
 use Rattle.columns.specs.Number.{formWidth, goodForm, fieldOf, holds, holdsInt, holdsDec, fieldBytes}
-use Rattle.columns.specs.Column.{Slot, missing, given, Rec, joined, allowed, Rule, anyText, noBrackets, notBlankFirst, notAllBlank, blankOrFilled, Col, numeric, text, letter, group, blank, printed, width, slots, texts, goodGroup, goodCol, good, widths, allSlots}
+use Rattle.columns.specs.Column.{mark, Slot, missing, given, Rec, joined, allowed, Rule, anyText, noBrackets, notBlankFirst, notAllBlank, blankOrFilled, Col, numeric, text, letter, group, blank, printed, width, slots, texts, goodGroup, goodCol, good, widths, allSlots}
 use Rattle.columns.specs.Group.{groupHolds, groupRange, groupBytes, putGroup}
-use Rattle.columns.specs.Reading.{judge, judgePrinted, ruleRefuses, ruleNumber, judgeText, asText, readCell, readColumns}
+use Rattle.columns.specs.Reading.{nothing, judge, judgePrinted, ruleRefuses, ruleNumber, judgeText, asText, readCell, readColumns}
 use Rattle.columns.specs.Writing.{putNumber, writeCell, writeColumns, writeLine}
 use Rattle.columns.specs.Table.{flagsOf, columnIn, colOf, columnsOf, sizesOf, sound, slotsBy}
 use Rattle.columns.specs.declared.column.Column.{Column}
@@ -193,6 +193,23 @@ read-opened [] seen at line r g o e = absurd o
 read-opened (c ∷ cs) seen at line r g o e =
     let s = chained joined (readCell c seen at (take (width c) line)) (λ z. readColumns cs (seen ++ z .numbers) (at + width c) (drop (width c) line)) r e in
     cell-opened c seen at line (s .a) (T-and (goodCol c) (good cs) g .0) o (s .first)
+
+-- ---- a line that is read begins with the mark that its first column is
+
+marked-by : (t : Bool) (x b n k : ℕ) (r : Rec) → eqb x b ≡ t → pick (isNone (pick t [] (x ∷ []))) (ok nothing) (refusal n k) ≡ ok r → x ≡ b
+marked-by true x b n k r p e = eqb-true x b p
+marked-by false x b n k r p e = absurd (no-answer n k r e)
+
+marked-first : (b at : ℕ) (line : List ℕ) (r : Rec) → 1 ≤ length line → judgePrinted b at (take 1 line) ≡ ok r → getD line 0 0 ≡ b
+unfolding skip
+marked-first b at [] r h e = absurd (omega arith)
+marked-first b at (x ∷ s) r h e = marked-by (eqb x b) x b notBlank _ r refl e
+
+pub read-marked : (b : ℕ) (cs : List Col) (seen : List Slot) (at : ℕ) (line : List ℕ) (r : Rec) → 1 ≤ length line → readColumns (mark b ∷ cs) seen at line ≡ ok r → getD line 0 0 ≡ b
+unfolding readColumns readCell
+read-marked b cs seen at line r h e =
+    let s = chained joined (readCell (mark b) seen at (take 1 line)) (λ z. readColumns cs (seen ++ z .numbers) (at + 1) (drop 1 line)) r e in
+    marked-first b at line (s .a) h (s .first)
 
 -- ---- a line that is read is not blank
 
