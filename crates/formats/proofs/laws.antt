@@ -29,4 +29,5 @@ pub mod BlockBounds
 pub mod Lettered
 pub mod Run
 pub mod RunWalk
+pub mod RunWriting
 pub mod Cards

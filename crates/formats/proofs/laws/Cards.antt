@@ -1,9 +1,17 @@
 -- The cards' tables in the code are their kinds; what holds of every kind of card, computed here.
 use mathlib.Core.Path.{_≡_, refl}
 use mathlib.Core.List.{List, [], _∷_}
-use Prim.Native.Nat.{ℕ}
-use Rattle.formats.specs.Lettered.{kindsOf, kindsAt}
+use Prim.Native.Nat.{ℕ, _≤_}
+use native.Mathlib.Omega.{arith}
+use lib.Dec.{T, lit<}
+use borrow.Author.Tests.{le-leb}
+use lib.ListN.{length, getD}
+use Rattle.formats.specs.Lettered.{LineKind, atStart, kindsOf, named, numbered, kindIn, recordFormat, kindsAt}
+use Rattle.formats.specs.Format.{formatOf}
+use Rattle.formats.specs.BlockWriting.{RecordCalls}
+use Rattle.formats.specs.RunWriting.{inOrder, WrittenRun}
 use Rattle.formats.specs.Cards.{cards}
+use Rattle.formats.proofs.laws.RunWriting.{OwnLetter, All, all-numbered, run-written}
 
 abbrev pub cardLetters : List ℕ
 cardLetters = 73 ∷ 76 ∷ 69 ∷ 77 ∷ 80 ∷ 65 ∷ 82 ∷ []
@@ -17,3 +25,43 @@ cardAfters = 9 ∷ 0 ∷ 0 ∷ 0 ∷ 0 ∷ 0 ∷ 0 ∷ []
 pub cards-are : kindsAt cardLetters cardRanks cardAfters 6 ≡ kindsOf cards
 unfolding kindsAt
 cards-are = refl
+
+-- each card is named by its letter, and its columns begin with it
+pub cards-own : All (OwnLetter cards) (kindsOf cards)
+unfolding named formatOf
+cards-own = (
+  record { own = refl; begins = refl; above = lit< tt },
+  (
+    record { own = refl; begins = refl; above = lit< tt },
+    (
+      record { own = refl; begins = refl; above = lit< tt },
+      (
+        record { own = refl; begins = refl; above = lit< tt },
+        (
+          record { own = refl; begins = refl; above = lit< tt },
+          (
+            record { own = refl; begins = refl; above = lit< tt },
+            (record { own = refl; begins = refl; above = lit< tt }, tt),
+          ),
+        ),
+      ),
+    ),
+  ),
+)
+
+-- what card calls wrote, the first record an I card's, reads back as a run of those cards
+pub cards-written : {rs : List (List ℕ)} {at end : ℕ} {out to : List ℕ} → at ≤ length out → RecordCalls (recordFormat cards) rs at out end to → WrittenRun cards rs at out end to
+cards-written h w = run-written cards cards-own h w
+
+-- every card has rank 0, so only the first is asked for
+one-rank : (r : List ℕ) → kindIn cards r .rank ≡ 0
+one-rank r = all-numbered (λ (k : LineKind). k .rank ≡ 0) (cards .opener) (kindsOf cards) (getD r 0 0) refl (refl, (refl, (refl, (refl, (refl, (refl, (refl, tt)))))))
+
+free-order : (rs : List (List ℕ)) → T (inOrder cards 0 rs)
+unfolding inOrder
+free-order [] = tt
+free-order (r ∷ rs) = let h : 0 ≤ kindIn cards r .after = omega arith in rw (le-leb 0 (kindIn cards r .after) h, one-rank r) (free-order rs)
+
+pub cards-in-order : (r : List ℕ) (rs : List (List ℕ)) → getD r 0 0 ≡ 6 → T (inOrder cards atStart (r ∷ rs))
+unfolding inOrder numbered
+cards-in-order r rs e = rw e (free-order rs)

@@ -32,7 +32,7 @@ use Rattle.formats.proofs.laws.Lines.{lt-or-le}
 use Rattle.columns.specs.declared.Outcome.{Outcome}
 use Rattle.columns.specs.declared.Outcome.the-variants as O
 
-filled-size : (w : ℕ) (l : List ℕ) → length l ≤ w → length (blankFilled w l) ≡ w
+pub filled-size : (w : ℕ) (l : List ℕ) → length l ≤ w → length (blankFilled w l) ≡ w
 filled-size w l h = length-append l (drop (length l) (replicate w 32)) ∙ omega (arith, length-drop {A = ℕ} (length l) (replicate w 32), length-replicate {A = ℕ} w 32)
 
 -- a line over the blanks of an array that is longer than the full width
