@@ -30,4 +30,5 @@ pub mod Lettered
 pub mod Run
 pub mod RunWalk
 pub mod RunWriting
+pub mod RunBounds
 pub mod Cards

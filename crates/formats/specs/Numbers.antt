@@ -7,6 +7,8 @@ use Rattle.formats.specs.declared.Reply.{Reply}
 use Rattle.formats.specs.declared.Reply.the-variants as R
 use Rattle.formats.specs.declared.block.Block.{Block}
 use Rattle.formats.specs.declared.block.Block.the-variants as B
+use Rattle.formats.specs.declared.run.Run.{Run}
+use Rattle.formats.specs.declared.run.Run.the-variants as U
 
 -- ---- a CUBE line that is read
 
@@ -75,3 +77,22 @@ blockComments (B.Refused number column line) = 0
 abbrev pub blockUsed : Block → ℕ
 blockUsed (B.Read rows comments used) = used
 blockUsed (B.Refused number column line) = 0
+
+-- ---- a run: a refusal adds its line's number from 1, 0 for the run's length and for the place of the counts
+
+abbrev pub runNumber : Run → ℕ
+runNumber (U.Read events) = 0
+runNumber (U.Refused number column line) = number
+
+abbrev pub runColumn : Run → ℕ
+runColumn (U.Read events) = 0
+runColumn (U.Refused number column line) = column
+
+abbrev pub runLine : Run → ℕ
+runLine (U.Read events) = 0
+runLine (U.Refused number column line) = line
+
+-- the number of events
+abbrev pub runEvents : Run → ℕ
+runEvents (U.Read events) = events
+runEvents (U.Refused number column line) = 0

@@ -2,7 +2,8 @@
 -- plain numbers and byte buffers; include/rotmibel.h.
 use mathlib.Core.Path.{_≡_}
 use mathlib.Core.List.{List}
-use Prim.Native.Nat.{ℕ, _+_, _*_, _/_, _%_, _<_}
+use Prim.Native.Nat.{ℕ, _+_, _*_, _/_, _%_, _≤_, _<_}
+use lib.ListN.{length}
 use lib.Dec.{eqb}
 use Rattle.columns.specs.Answer.{pick, Answer}
 use Rattle.columns.specs.Table.{laid}
@@ -11,7 +12,12 @@ use Rattle.catalogue.specs.declared.Searched.{Searched}
 use Rattle.formats.specs.Record.{replyOf}
 use Rattle.formats.specs.BlockWriting.{fromPlace, laidFrom}
 use Rattle.formats.specs.BlockWalk.{firstLine, nextLine}
-use Rattle.formats.specs.Numbers.{replyNumber, replyColumn, replyLength, blockNumber, blockColumn, blockLine, blockRows, blockComments, blockUsed}
+use Rattle.formats.specs.Numbers.{replyNumber, replyColumn, replyLength, blockNumber, blockColumn, blockLine, blockRows, blockComments, blockUsed, runNumber, runColumn, runLine, runEvents}
+use Rattle.formats.specs.Cards.{cards}
+use Rattle.formats.specs.Run.{countsSize, readRun, countsAfter}
+use Rattle.formats.specs.RunWalk.{firstTold, nextTold}
+use Rattle.formats.specs.declared.run.Run.{Run}
+use Rattle.formats.specs.declared.run.Run.the-variants as U
 use Rattle.formats.specs.declared.block.Block.the-variants as B
 use Rattle.formats.specs.declared.Reply.{Reply}
 use Rattle.formats.specs.declared.block.Block.{Block}
@@ -70,9 +76,33 @@ lineIn n =
       next = n / 17592186044416;
     }
 
+-- a line whose numbers fit their parts
+abbrev pub smallLine : BlockLine → Type 0
+smallLine x = (x .number < 65536) × ((x .end ≤ 65536) × (x .next ≤ 65536))
+
 -- the first line where the number handed in is 0, else the line after the one that it tells of
+abbrev pub metBy : BlockLine → (BlockLine → BlockLine) → ℕ → BlockLine
+metBy first next before = pick (eqb before 0) first (next (lineIn before))
+
 abbrev pub metLine : List ℕ → List ℕ → ℕ → BlockLine
-metLine header b before = pick (eqb before 0) (firstLine header b) (nextLine b (lineIn before))
+metLine header b before = metBy (firstLine header b) (nextLine b) before
+
+-- ---- runs of cards
+
+-- on 0 the number of events stands where a column does, and the bytes of the counts where a length does; a refusal has its column,
+-- and its line where a length stands
+abbrev pub runAnswer : Run → ℕ
+runAnswer (U.Read events) = parts (runNumber (U.Read events)) (runEvents (U.Read events)) (countsSize cards)
+runAnswer (U.Refused number column line) = parts (runNumber (U.Refused number column line)) (runColumn (U.Refused number column line)) (runLine (U.Refused number column line))
+
+-- what the call returns, and the lent bytes: the counts over the first of them, or nothing changed
+pub record AnsweredRun (b : List ℕ) (r : ℕ) (from to : List ℕ) : Type 0 where
+  pub answer : r ≡ runAnswer (readRun cards b (length from))
+  pub bytes : to ≡ countsAfter cards b (readRun cards b (length from)) from
+
+-- a line of a walk of a run of cards: as a line of a block, with its letter as its kind and its event's number in place of a row's
+abbrev pub metCard : List ℕ → ℕ → BlockLine
+metCard b before = metBy (firstTold cards b) (nextTold cards b) before
 
 -- a reply to a call from a place: the place after what was written, modulo 2^40, where a length stands
 abbrev pub placeIn : Reply → ℕ

@@ -11,12 +11,19 @@ use formats::block_walk::first_line;
 use formats::block_walk::next_line;
 use formats::block_writer::write_header;
 use formats::block_writer::write_record;
+use formats::cards::first_card;
+use formats::cards::next_card;
+use formats::cards::read_card;
+use formats::cards::read_cards;
+use formats::cards::write_card;
+use formats::cards::write_card_record;
 use formats::cube_record::read_into;
 use formats::cube_record::write_from;
 use formats::format::ARRIVAL;
 use formats::format::PHASE;
 use formats::row::read_row_into;
 use formats::row::write_row_from;
+use formats::run::Run;
 ghost use mathlib.Core.Path.{_≡_};
 ghost use Prim.Native.Nat.{_<_};
 ghost use lib.ListN.{length};
@@ -25,10 +32,13 @@ ghost use Rattle.formats.specs.Row.{readRowInto, writeRowFrom};
 ghost use Rattle.formats.specs.Format.{formatOf, headerOf, blockOf};
 ghost use Rattle.formats.specs.Block.{readBlock};
 ghost use Rattle.formats.specs.BlockWriting.{headerCall, recordCall};
+ghost use Rattle.formats.specs.Lettered.{kindsOf, readLetteredInto, writeLettered};
+ghost use Rattle.formats.specs.Cards.{cards, cardRecord};
+ghost use Rattle.formats.specs.RunWriting.{letteredCall};
 ghost use Rattle.catalogue.specs.Room.{callOf, roomAfter, orderOf};
 ghost use Rattle.catalogue.specs.LookUp.{lookUp};
 ghost use Rattle.catalogue.specs.QuickLookUp.{quickLookUp};
-ghost use Rattle.rotmibel.specs.Answers.{parts, numberIn, small, lookedNumber, searchedNumber, blockAnswer, lineNumber, lineIn, metLine, placeIn, lowColumn, Answered, AnsweredFrom};
+ghost use Rattle.rotmibel.specs.Answers.{parts, numberIn, small, lookedNumber, searchedNumber, blockAnswer, lineNumber, lineIn, smallLine, metLine, placeIn, lowColumn, Answered, AnsweredFrom, AnsweredRun, metCard};
 
 // Answer, column and length in one number.
 fn parts_of(answer: u8, column: usize, len: usize) -> u64
@@ -160,12 +170,19 @@ fn met_line(kind: u8, block: &[u8], before: u64) -> BlockLine
     next_line(block, line_of(before))
 }
 
+// A line of a walk as one number.
+fn line_number(line: BlockLine) -> u64
+    requires { ⌜ smallLine line ⌝ }
+    ensures { λ n. ⌜ n ≡ lineNumber line ⌝ }
+{
+    parts_of(line.kind, line.number, line.end + 1048576 * line.next)
+}
+
 // The next line of a block, after the one that the call before answered.
 fn met_number(kind: u8, block: &[u8], before: u64) -> u64
     ensures { λ r. ⌜ r ≡ lineNumber (metLine (headerOf kind) (now (block .entry)) before) ⌝ }
 {
-    let line = met_line(kind, block, before);
-    parts_of(line.kind, line.number, line.end + 1048576 * line.next)
+    line_number(met_line(kind, block, before))
 }
 
 // A block's header written from a place on.
@@ -280,4 +297,60 @@ pub extern "C" fn rotmibel_write_arrival_record(from: &[u8], out: &mut [u8], at:
     ensures { λ r. ⌜ AnsweredFrom at (recordCall (formatOf 5) (now (from .entry)) at (length (now (out .entry)))) r (now (out .entry)) (now (out .exit)) ⌝ }
 {
     record_number(ARRIVAL, from, out, at)
+}
+
+// ---- the Calnet cards and runs of them
+
+// A card read into the record of its kind.
+#[no_mangle]
+pub extern "C" fn rotmibel_read_card(line: &[u8], out: &mut [u8]) -> u64
+    ensures { λ r. ⌜ Answered (readLetteredInto (kindsOf cards) cardRecord (now (line .entry)) (length (now (out .entry)))) r (now (out .entry)) (now (out .exit)) ⌝ }
+{
+    number_of(read_card(line, out))
+}
+
+// A card written from its record.
+#[no_mangle]
+pub extern "C" fn rotmibel_write_card(from: &[u8], out: &mut [u8]) -> u64
+    ensures { λ r. ⌜ Answered (writeLettered cards (now (from .entry)) (length (now (out .entry)))) r (now (out .entry)) (now (out .exit)) ⌝ }
+{
+    number_of(write_card(from, out))
+}
+
+// A card written from its record as a line of a run, from a place on.
+#[no_mangle]
+pub extern "C" fn rotmibel_write_card_record(from: &[u8], out: &mut [u8], at: usize) -> u64
+    ensures { λ r. ⌜ AnsweredFrom at (letteredCall cards (now (from .entry)) at (length (now (out .entry)))) r (now (out .entry)) (now (out .exit)) ⌝ }
+{
+    place_of(write_card_record(from, out, at))
+}
+
+// A run of cards read, and how many cards it has of each letter.
+#[no_mangle]
+pub extern "C" fn rotmibel_read_cards(run: &[u8], counts: &mut [u8]) -> u64
+    ensures { λ r. ⌜ AnsweredRun (now (run .entry)) r (now (counts .entry)) (now (counts .exit)) ⌝ }
+{
+    let outcome = read_cards(run, counts);
+    match outcome {
+        Run::Read(events) => parts_of(0, events, 14),
+        Run::Refused(number, column, line) => parts_of(number, column, line),
+    }
+}
+
+// The first card of a run, or the card after the one that a number tells of.
+fn met_card(run: &[u8], before: u64) -> BlockLine
+    ensures { λ r. ⌜ r ≡ metCard (now (run .entry)) before ⌝ }
+{
+    if before == 0 {
+        return first_card(run);
+    }
+    next_card(run, line_of(before))
+}
+
+// The next card of a run, after the one that the call before answered.
+#[no_mangle]
+pub extern "C" fn rotmibel_card_line(run: &[u8], before: u64) -> u64
+    ensures { λ r. ⌜ r ≡ lineNumber (metCard (now (run .entry)) before) ⌝ }
+{
+    line_number(met_card(run, before))
 }

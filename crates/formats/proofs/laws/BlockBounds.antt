@@ -130,7 +130,7 @@ pub record SmallLine (x : BlockLine) : Type 0 where
   pub end : x .end ≤ 65536
   pub next : x .next ≤ 65536
 
-small-nothing : (n : ℕ) → n < 256 → SmallLine (nothing n)
+pub small-nothing : (n : ℕ) → n < 256 → SmallLine (nothing n)
 small-nothing n h = record { kind = h; number = omega arith; end = omega arith; next = omega arith }
 
 small-known : (κ : Kind) (n e x : ℕ) → n ≤ 65534 → e ≤ 65536 → x ≤ 65536 → SmallLine (known κ n e x)
@@ -139,10 +139,10 @@ small-known comment n e x h i j = record { kind = omega arith; number = omega (a
 small-known row n e x h i j = record { kind = omega arith; number = omega (arith, h); end = i; next = j }
 
 module _ (b : List ℕ) (low : length b ≤ 65536) (at : ℕ) (h : at < length b) where
-  end-low : lineEnd b at ≤ 65536
+  pub end-low : lineEnd b at ≤ 65536
   end-low = omega (arith, low, line-end-to b at (omega (arith, h)))
 
-  after-low : nextOf b at ≤ 65536
+  pub after-low : nextOf b at ≤ 65536
   after-low = let r = next-range b at h in omega (arith, low, r .1)
 
 small-headed : (header b : List ℕ) → length b ≤ 65536 → 0 < length b → SmallLine (headed header b)
@@ -171,7 +171,7 @@ small-after b low at n = elim (lt-or-le 65534 n) [
   ]
 ]
 
-small-pick : (t : Bool) (x y : BlockLine) → SmallLine x → SmallLine y → SmallLine (pick t x y)
+pub small-pick : (t : Bool) (x y : BlockLine) → SmallLine x → SmallLine y → SmallLine (pick t x y)
 small-pick true x y p q = p
 small-pick false x y p q = q
 

@@ -1,7 +1,7 @@
 -- The cards' tables in the code are their kinds; what holds of every kind of card, computed here.
 use mathlib.Core.Path.{_≡_, refl}
 use mathlib.Core.List.{List, [], _∷_}
-use Prim.Native.Nat.{ℕ, _≤_}
+use Prim.Native.Nat.{ℕ, _≤_, _<_}
 use native.Mathlib.Omega.{arith}
 use lib.Dec.{T, lit<}
 use borrow.Author.Tests.{le-leb}
@@ -11,6 +11,11 @@ use Rattle.formats.specs.Format.{formatOf}
 use Rattle.formats.specs.BlockWriting.{RecordCalls}
 use Rattle.formats.specs.RunWriting.{inOrder, WrittenRun}
 use Rattle.formats.specs.Cards.{cards}
+use Rattle.formats.specs.Run.{readRun}
+use Rattle.formats.specs.RunWalk.{firstTold, nextTold}
+use Rattle.formats.specs.declared.block_walk.BlockLine.{BlockLine}
+use Rattle.formats.proofs.laws.BlockBounds.{SmallLine}
+use Rattle.formats.proofs.laws.RunBounds.{SmallRun, run-small, first-small, next-small}
 use Rattle.formats.proofs.laws.RunWriting.{OwnLetter, All, all-numbered, run-written}
 
 abbrev pub cardLetters : List ℕ
@@ -65,3 +70,16 @@ free-order (r ∷ rs) = let h : 0 ≤ kindIn cards r .after = omega arith in rw 
 pub cards-in-order : (r : List ℕ) (rs : List (List ℕ)) → getD r 0 0 ≡ 6 → T (inOrder cards atStart (r ∷ rs))
 unfolding inOrder numbered
 cards-in-order r rs e = rw e (free-order rs)
+
+-- their letters are bytes, and not 0
+pub cards-low : All (λ (k : LineKind). k .letter < 256) (kindsOf cards)
+cards-low = (lit< tt, (lit< tt, (lit< tt, (lit< tt, (lit< tt, (lit< tt, (lit< tt, tt)))))))
+
+pub card-walk-first : (b : List ℕ) → SmallLine (firstTold cards b)
+card-walk-first b = first-small cards cards-low b
+
+pub card-walk-next : (b : List ℕ) (x : BlockLine) → SmallLine (nextTold cards b x)
+card-walk-next b x = next-small cards cards-low b x
+
+pub cards-small : (b : List ℕ) (room : ℕ) → SmallRun (readRun cards b room)
+cards-small b room = run-small cards (lit< tt) b room

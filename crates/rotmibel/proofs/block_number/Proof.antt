@@ -1,6 +1,6 @@
 use Rattle.formats.proofs.laws.BlockBounds.{block-small}
 use Rattle.formats.specs.Block.{readBlock}
-use Rattle.formats.specs.Format.{formatOf, blockOf}
+use Rattle.formats.specs.Format.{blockOf}
 use Rattle.formats.proofs.laws.Format.{format-fits}
 use Rattle.rotmibel.specs.Answers.{blockAnswer}
 use Rattle.rotmibel.proofs.laws.Answers.{read-number, refused-number}
@@ -13,14 +13,14 @@ use Rattle.rotmibel.proofs.block_number.Tie as tie
 mul-parts-of : tie.Need-mul-parts-of
 mul-parts-of c =
     let b = c .before .before .before .before .before .args .block .now in
-    let w = read-number (readBlock (blockOf (c .before .before .before .before .before .args .kind)) b) _ _ _ (sym (c .before .before .before .read-block .ensures) ∙ c .before .outcome .given .1) (block-small (formatOf (c .before .before .before .before .before .args .kind)) (format-fits (c .before .before .before .before .before .args .kind)) b) in
+    let w = read-number (readBlock (blockOf (c .before .before .before .before .before .args .kind)) b) _ _ _ (sym (c .before .before .before .read-block .ensures) ∙ c .before .outcome .given .1) (block-small (blockOf (c .before .before .before .before .before .args .kind)) (format-fits (c .before .before .before .before .before .args .kind)) b) in
     let u = w .used in
     omega (arith, u)
 
 add-parts-of : tie.Need-add-parts-of
 add-parts-of c =
     let b = c .before .before .before .before .before .args .block .now in
-    let w = read-number (readBlock (blockOf (c .before .before .before .before .before .args .kind)) b) _ _ _ (sym (c .before .before .before .read-block .ensures) ∙ c .before .outcome .given .1) (block-small (formatOf (c .before .before .before .before .before .args .kind)) (format-fits (c .before .before .before .before .before .args .kind)) b) in
+    let w = read-number (readBlock (blockOf (c .before .before .before .before .before .args .kind)) b) _ _ _ (sym (c .before .before .before .read-block .ensures) ∙ c .before .outcome .given .1) (block-small (blockOf (c .before .before .before .before .before .args .kind)) (format-fits (c .before .before .before .before .before .args .kind)) b) in
     let u = w .used in
     let k = w .comments in
     omega (arith, u, k)
@@ -28,7 +28,7 @@ add-parts-of c =
 parts-of-requires : tie.Need-parts-of-requires
 parts-of-requires c κs =
     let b = c .before .before .before .before .before .args .block .now in
-    let w = read-number (readBlock (blockOf (c .before .before .before .before .before .args .kind)) b) _ _ _ (sym (c .before .before .before .read-block .ensures) ∙ c .before .outcome .given .1) (block-small (formatOf (c .before .before .before .before .before .args .kind)) (format-fits (c .before .before .before .before .before .args .kind)) b) in
+    let w = read-number (readBlock (blockOf (c .before .before .before .before .before .args .kind)) b) _ _ _ (sym (c .before .before .before .read-block .ensures) ∙ c .before .outcome .given .1) (block-small (blockOf (c .before .before .before .before .before .args .kind)) (format-fits (c .before .before .before .before .before .args .kind)) b) in
     let u = w .used in
     let k = w .comments in
     (w .rows, omega (arith, u, k))
@@ -36,7 +36,7 @@ parts-of-requires c κs =
 parts-of-requires-2 : tie.Need-parts-of-requires-2
 parts-of-requires-2 c κs =
     let b = c .before .before .before .before .before .args .block .now in
-    let w = refused-number (readBlock (blockOf (c .before .before .before .before .before .args .kind)) b) _ _ _ (sym (c .before .before .before .read-block .ensures) ∙ c .before .outcome2 .given .1) (block-small (formatOf (c .before .before .before .before .before .args .kind)) (format-fits (c .before .before .before .before .before .args .kind)) b) in
+    let w = refused-number (readBlock (blockOf (c .before .before .before .before .before .args .kind)) b) _ _ _ (sym (c .before .before .before .read-block .ensures) ∙ c .before .outcome2 .given .1) (block-small (blockOf (c .before .before .before .before .before .args .kind)) (format-fits (c .before .before .before .before .before .args .kind)) b) in
     (w .0, omega (arith, w .1))
 
 returns : tie.Need-returns

@@ -17,7 +17,14 @@ use Rattle.formats.proofs.laws.BlockBounds.{Small, SmallRead, SmallLine, first-
 use Rattle.formats.specs.BlockWalk.{firstLine, nextLine}
 use Rattle.formats.specs.declared.block_walk.BlockLine.{BlockLine}
 use Rattle.formats.proofs.laws.CubeRecordBack.{sizeOf}
-use Rattle.rotmibel.specs.Answers.{numberIn, small, Answered, placeIn, lowColumn, AnsweredFrom, lineNumber, lineIn, metLine}
+use Rattle.rotmibel.specs.Answers.{numberIn, small, Answered, placeIn, lowColumn, AnsweredFrom, lineNumber, lineIn, smallLine, metBy, metLine, runAnswer, AnsweredRun, metCard}
+use Rattle.formats.specs.Cards.{cards}
+use Rattle.formats.specs.Run.{RunRead}
+use Rattle.formats.specs.RunWalk.{firstTold, nextTold}
+use Rattle.formats.proofs.laws.RunBounds.{SmallRun}
+use Rattle.formats.proofs.laws.Cards.{card-walk-first, card-walk-next}
+use Rattle.formats.specs.declared.run.Run.{Run}
+use Rattle.formats.specs.declared.run.Run.the-variants as U
 
 pub answered : {a : Answer (List ℕ)} {r : Reply} {from to : List ℕ} (n : ℕ) → n ≡ numberIn r → Replied a r from to → Answered a n from to
 answered n e w = record { answer = e ∙ ap numberIn (w .answer); bytes = w .bytes }
@@ -50,21 +57,40 @@ read-number x p k u e w = subst Small e w
 pub refused-number : (x : Block) (n c l : ℕ) → x ≡ B.Refused n c l → Small x → (c < 65536) × (l ≤ 65538)
 refused-number x n c l e w = subst Small e w
 
-pub line-number : (x y : BlockLine) → x ≡ y → SmallLine y → SmallLine x
-line-number x y e w = subst SmallLine (sym e) w
+pub line-small : (x y : BlockLine) → x ≡ y → SmallLine y → smallLine x
+line-small x y e w = let s : SmallLine x = subst SmallLine (sym e) w in (s .number, (s .end, s .next))
 
-pub met-small : (header b : List ℕ) (before : ℕ) → SmallLine (metLine header b before)
-met-small header b before = by-test (eqb before 0)
-  where
-    by-test : (t : Bool) → SmallLine (pick t (firstLine header b) (nextLine b (lineIn before)))
-    by-test true = first-small header b
-    by-test false = next-small b (lineIn before)
+-- a line of a walk
+module _ (first : BlockLine) (next : BlockLine → BlockLine) (before : ℕ) where
+  met-small : SmallLine first → ((x : BlockLine) → SmallLine (next x)) → SmallLine (metBy first next before)
+  met-small p q = by-test (eqb before 0)
+    where
+      by-test : (t : Bool) → SmallLine (pick t first (next (lineIn before)))
+      by-test true = p
+      by-test false = q (lineIn before)
 
-pub met-first : (header b : List ℕ) (before : ℕ) → before ≡ 0 → firstLine header b ≡ metLine header b before
-met-first header b before e = sym (rw (eq-eqb before 0 e))
+  pub met-first : before ≡ 0 → first ≡ metBy first next before
+  met-first e = sym (rw (eq-eqb before 0 e))
 
-pub met-next : (header b : List ℕ) (before : ℕ) → (before ≡ 0 → ⊥) → nextLine b (lineIn before) ≡ metLine header b before
-met-next header b before n = sym (rw (ne-eqb before 0 n))
+  pub met-next : (before ≡ 0 → ⊥) → next (lineIn before) ≡ metBy first next before
+  met-next n = sym (rw (ne-eqb before 0 n))
+
+pub block-line-small : (header b : List ℕ) (before : ℕ) → SmallLine (metLine header b before)
+block-line-small header b before = met-small (firstLine header b) (nextLine b) before (first-small header b) (next-small b)
+
+pub card-line-small : (b : List ℕ) (before : ℕ) → SmallLine (metCard b before)
+card-line-small b before = met-small (firstTold cards b) (nextTold cards b) before (card-walk-first b) (card-walk-next b)
+
+-- ---- the numbers of a run of cards fit their parts
+
+pub run-read-number : (x : Run) (e : ℕ) → x ≡ U.Read e → SmallRun x → e < 65536
+run-read-number x e q w = subst SmallRun q w
+
+pub run-refused-number : (x : Run) (n c l : ℕ) → x ≡ U.Refused n c l → SmallRun x → (c < 65536) × (l ≤ 65537)
+run-refused-number x n c l q w = subst SmallRun q w
+
+pub answered-run : {b : List ℕ} {x : Run} {from to : List ℕ} (n : ℕ) (r : Run) → RunRead cards b x from to → x ≡ r → n ≡ runAnswer r → AnsweredRun b n from to
+answered-run n r w e q = record { answer = q ∙ ap runAnswer (sym e ∙ w .answer); bytes = w .bytes }
 
 -- ---- a number that is handed back tells of the line that was answered
 
@@ -98,6 +124,6 @@ line-back x s =
     let next : lineNumber x / 17592186044416 ≡ x .next = rw (c, next-part (x .kind + 256 * x .number + 16777216 * x .end) (x .next) (omega (arith, s .kind, s .number, e))) in
     rw (kind, number, end, next)
 
--- so a walk by the numbers is the walk of the block
-pub handed-back : (header b : List ℕ) (x : BlockLine) → SmallLine x → 1 ≤ x .kind → metLine header b (lineNumber x) ≡ nextLine b x
-handed-back header b x s h = sym (met-next header b (lineNumber x) (λ z. omega (arith, z, h))) ∙ ap (nextLine b) (line-back x s)
+-- so a walk by the numbers is the walk of the block, or of the run
+pub handed-back : (first : BlockLine) (next : BlockLine → BlockLine) (x : BlockLine) → SmallLine x → 1 ≤ x .kind → metBy first next (lineNumber x) ≡ next x
+handed-back first next x s h = sym (met-next first next (lineNumber x) (λ z. omega (arith, z, h))) ∙ ap next (line-back x s)
