@@ -325,8 +325,8 @@ uint64_t rotmibel_write_card(const uint8_t *record, size_t record_len, uint8_t *
 uint64_t rotmibel_write_card_record(const uint8_t *record, size_t record_len, uint8_t *out, size_t out_len, size_t at);
 
 /*
- * A run of cards has at most ROTMIBEL_BLOCK bytes, each line ended by a newline or the end; a newline at the end adds no line. An I card opens
- * an event, and the others belong to the I card before them, in any order. There is no header, no comment and no closing line.
+ * A run of cards has at most ROTMIBEL_BLOCK bytes, each line ended by a newline or the end; a newline at the end adds no line. An I card
+ * opens an event, and the others belong to the I card before them, in any order. There is no header, no comment and no closing line.
  */
 
 /*
