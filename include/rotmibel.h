@@ -12,8 +12,8 @@
  *   bits  0 to  7   the answer, ROTMIBEL_READ or one of the refusals below
  *   bits  8 to 23   the column of a refusal, from 1; 0 where the refusal names none
  *   bits 24 to 63   the number of bytes written to the lent buffer, or the place of a look-up; 0 after a refusal
- * rotmibel_quick_look_up puts another number into the second part, calls on a block into the second and third; each says which, and has
- * macros of its own.
+ * rotmibel_quick_look_up puts another number into the second part, calls on a block or on a run of cards into the second and third; each
+ * says which, and has macros of its own.
  * After a refusal (answers 1 to 19) nothing lent has changed. Otherwise only the bytes written have.
  */
 #ifndef ROTMIBEL_H
@@ -38,23 +38,27 @@ extern "C" {
 #define ROTMIBEL_PHASE_COUNT(r) ((size_t)(((r) >> 8) & 0xffff))    /* rotmibel_read_block, READ: the phase lines */
 #define ROTMIBEL_COMMENT_COUNT(r) ((size_t)(((r) >> 24) & 0xffff)) /* rotmibel_read_block, READ: the comments */
 #define ROTMIBEL_BYTES_USED(r) ((size_t)((r) >> 40))               /* rotmibel_read_block, READ: the bytes used */
-/* rotmibel_read_block: the refused line, from 1; 0 of a block that is read, and of one over ROTMIBEL_BLOCK bytes */
+/* rotmibel_read_block, rotmibel_read_cards: the refused line, from 1; 0 of a block or run that is read, of one over ROTMIBEL_BLOCK bytes,
+   and where the place lent for the counts is too short */
 #define ROTMIBEL_LINE_NUMBER(r) ((size_t)(ROTMIBEL_ANSWER(r) == ROTMIBEL_READ ? 0 : (r) >> 24))
 #define ROTMIBEL_LINE_KIND(r) ROTMIBEL_ANSWER(r)                   /* rotmibel_block_line: what the line is */
 #define ROTMIBEL_LINE_PHASE(r) ((size_t)(((r) >> 8) & 0xffff))     /* rotmibel_block_line: the phase line it is or belongs to */
 #define ROTMIBEL_LINE_END(r) ((size_t)(((r) >> 24) & 0xfffff))     /* rotmibel_block_line: where the line ends */
 #define ROTMIBEL_LINE_NEXT(r) ((size_t)((r) >> 44))                /* rotmibel_block_line: the place after it, where the next one starts */
-#define ROTMIBEL_PLACE(r) ((size_t)((r) >> 24))                    /* rotmibel_write_header and _record, READ: the place after */
+#define ROTMIBEL_PLACE(r) ((size_t)((r) >> 24))                    /* a header or record written with its newline, READ: the place after */
 /* The same parts of what a call on an arrival block returns. */
 #define ROTMIBEL_ARRIVAL_COUNT(r) ROTMIBEL_PHASE_COUNT(r)          /* rotmibel_read_arrival_block, READ: the arrival lines */
 #define ROTMIBEL_LINE_ARRIVAL(r) ROTMIBEL_LINE_PHASE(r)            /* rotmibel_arrival_block_line: the arrival line it is or belongs to */
+/* And of what a call on a run of cards returns, beside LINE_NUMBER, LINE_KIND (the card's letter), LINE_END, LINE_NEXT and PLACE. */
+#define ROTMIBEL_EVENT_COUNT(r) ROTMIBEL_PHASE_COUNT(r)            /* rotmibel_read_cards, READ: the events */
+#define ROTMIBEL_LINE_EVENT(r) ROTMIBEL_LINE_PHASE(r)              /* rotmibel_card_line: the event that the card opens or belongs to */
 
 /* Answers. */
 #define ROTMIBEL_READ 0      /* read or written */
-#define ROTMIBEL_BAD_LENGTH 1 /* the length of a line, or of the line that a record would make; column 0 */
+#define ROTMIBEL_BAD_LENGTH 1 /* the length of a line, or of the line that a record would make; an empty line among cards; column 0 */
 #define ROTMIBEL_BARRED 2    /* a byte that may not stand in its column; that column */
-#define ROTMIBEL_TYPE 3      /* neither `E ` nor `DE` nor `LI`; column 1 */
-#define ROTMIBEL_SEPARATOR 4 /* a separator of a phase or arrival line is not blank; its column */
+#define ROTMIBEL_TYPE 3      /* neither `E ` nor `DE` nor `LI`; of a card, none of the seven letters; column 1 */
+#define ROTMIBEL_SEPARATOR 4 /* a separator of a phase or arrival line or of a card is not blank; its column */
 #define ROTMIBEL_REQUIRED 5  /* a required field is blank or missing; its first column */
 #define ROTMIBEL_FORM 6      /* a field of bad form, its first column; malformed parts of a link, column 15; no record, column 0 */
 #define ROTMIBEL_RANGE 7     /* a number out of its range, or a day that its month does not have; the field's first column */
@@ -64,7 +68,8 @@ extern "C" {
 #define ROTMIBEL_SHORT 11    /* the lent buffer or room is too short; column 0 */
 #define ROTMIBEL_FULL 12     /* a new pair while the catalogue names 512; column 0 */
 #define ROTMIBEL_DISORDER 13 /* the room is no catalogue in order; column 0 */
-#define ROTMIBEL_OUT_OF_PLACE 14 /* a block's first line is not the header, or a comment before any phase or arrival line; column 0 */
+#define ROTMIBEL_OUT_OF_PLACE 14 /* a block's first line is not the header; a comment before any phase or arrival line; a card before any I
+                                    card; column 0 */
 #define ROTMIBEL_NOT_CLOSED 15   /* a comment that does not end in `)`; column 0 */
 #define ROTMIBEL_LINKS_FULL 16   /* a link of a new source, identifier and type while the catalogue has 64 links; column 0 */
 
@@ -88,7 +93,8 @@ extern "C" {
 #define ROTMIBEL_IS_CLOSING 43 /* the closing blank line */
 
 /* Sizes: a CUBE record of any kind, the longest CUBE line, an E line, a phase record, a written phase line, a line of a written phase block
-   with its newline, the same three of arrivals, the longest block. */
+   with its newline, the same three of arrivals, the longest record of a card, the longest card, the counts of a run of cards, the longest
+   block or run of cards. */
 #define ROTMIBEL_RECORD 268
 #define ROTMIBEL_LINE 255
 #define ROTMIBEL_EVENT_LINE 80
@@ -98,6 +104,9 @@ extern "C" {
 #define ROTMIBEL_ARRIVAL_RECORD 240
 #define ROTMIBEL_ARRIVAL_LINE 203
 #define ROTMIBEL_ARRIVAL_BLOCK_LINE 204
+#define ROTMIBEL_CARD_RECORD 82
+#define ROTMIBEL_CARD_LINE 78
+#define ROTMIBEL_CARD_COUNTS 14
 #define ROTMIBEL_BLOCK 65536
 
 /* Sizes of a catalogue: its room, the room as it was before links (see below), the most pairs of source and identifier that it names, the
@@ -115,6 +124,13 @@ extern "C" {
 #define ROTMIBEL_PHASE 3
 #define ROTMIBEL_LINK 4
 #define ROTMIBEL_ARRIVAL 5
+#define ROTMIBEL_CARD_I 6
+#define ROTMIBEL_CARD_L 7
+#define ROTMIBEL_CARD_E 8
+#define ROTMIBEL_CARD_M 9
+#define ROTMIBEL_CARD_P 10
+#define ROTMIBEL_CARD_A 11
+#define ROTMIBEL_CARD_R 12
 
 /*
  * Read a CUBE line, `E `, `DE` or `LI`, into a record.
@@ -258,6 +274,91 @@ uint64_t rotmibel_write_arrival_header(uint8_t *out, size_t out_len, size_t at);
 uint64_t rotmibel_write_arrival_record(const uint8_t *record, size_t record_len, uint8_t *out, size_t out_len, size_t at);
 
 /*
+ * A Calnet card is a line whose first byte, the key letter, says what it holds: I identifies an event, L is its location, E the errors of
+ * that, M a magnitude, P a pick, A an amplitude, R a remark. Each has a full width and a record of its own size:
+ *
+ *   letter     I   L   E   M   P   A   R
+ *   width     45  43  63  18  42  43  78
+ *   record    74  43  82  24  37  43  77
+ *
+ * The other letters of the format (C, G, T, N) are not read.
+ */
+
+/*
+ * Read a card of any of the seven letters into a record. A line shorter than its card's width is read as if blank-filled.
+ *
+ * line, line_len      the line
+ * record, record_len  where the record goes: at least ROTMIBEL_CARD_RECORD bytes, whatever the letter; the first, as many as the card's
+ *                     record has, are written, and the others stay
+ *
+ * Answers, looked for in this order: SHORT (record_len, before the line is looked at); BAD_LENGTH (an empty line); TYPE (another first
+ * byte); BAD_LENGTH (a line longer than its card's width, also where the rest is blank); BARRED (the lowest such column; brackets are
+ * text); then the columns from left to right, each SEPARATOR, or REQUIRED (year to second of an I card), FORM, RANGE; else READ, with the
+ * length of the record. LETTER is never answered.
+ *
+ * Ranges: year -999 to 6070, month, hour and minute as in an E line, a day that the calendar has (else RANGE at column 11), thousandths of
+ * a second 0 to 59,999; latitude at most 90,000 and longitude 180,000 either side of zero. The other numbers are as their columns hold them,
+ * also below zero. A blank number is missing, which is not the same as 0: a gap of 0.0 is there and is 0.
+ */
+uint64_t rotmibel_read_card(const uint8_t *line, size_t line_len, uint8_t *record, size_t record_len);
+
+/*
+ * Write a record as a card, at its full width.
+ *
+ * record, record_len  the record: its first byte says which card, and of the others only those that this card's record has count
+ * line, line_len      where the card goes: at least its width; ROTMIBEL_CARD_LINE bytes do for each
+ *
+ * Answers, looked for in this order: FORM at column 0 (no record: no bytes, a kind that is no card's, fewer bytes than its record has, a
+ * flag other than 0 and 1, a missing number with bytes that are not zero); SHORT; then the columns from left to right, each REQUIRED,
+ * BARRED, WIDE, RANGE; else READ, with the card's width. What is written reads back to the same record.
+ */
+uint64_t rotmibel_write_card(const uint8_t *record, size_t record_len, uint8_t *line, size_t line_len);
+
+/*
+ * Write a record as a card and a newline, from place `at` of a buffer on: 0, or the place that the call before answered.
+ *
+ * Answers, looked for in this order: FORM at column 0 (no record); SHORT where fewer bytes than the card's width and one are left from
+ * there, also for a place past the end; then as rotmibel_write_card; else READ, with PLACE the place after the newline (modulo 2^40).
+ * Other bytes stay. Whether the card follows an I card is not looked at: what these calls wrote reads back as a run of those records in
+ * that order where the first is an I card's and the whole has at most ROTMIBEL_BLOCK bytes.
+ */
+uint64_t rotmibel_write_card_record(const uint8_t *record, size_t record_len, uint8_t *out, size_t out_len, size_t at);
+
+/*
+ * A run of cards has at most ROTMIBEL_BLOCK bytes, each line ended by a newline or the end; a newline at the end adds no line. An I card
+ * opens an event, and the others belong to the I card before them, in any order. There is no header, no comment and no closing line.
+ */
+
+/*
+ * Read a run of cards: is it one, and how many events and cards of each letter does it have?
+ *
+ * run, run_len        the run; one of no bytes has no events
+ * counts, counts_len  where the numbers of cards go: at least ROTMIBEL_CARD_COUNTS bytes, the first of which are written, two for each of
+ *                     the letters I, L, E, M, P, A, R in this order, high byte first (rotmibel_card_count)
+ *
+ * Returns READ with EVENT_COUNT, which is the number of I cards, and length ROTMIBEL_CARD_COUNTS. Or, looked for in this order: SHORT at
+ * line 0 (counts_len); BAD_LENGTH at line 0 (over ROTMIBEL_BLOCK bytes); the refusal of the first refused line, with its COLUMN and its
+ * LINE_NUMBER. Of a line: BAD_LENGTH, TYPE, BAD_LENGTH and BARRED as rotmibel_read_card; OUT_OF_PLACE (a card before any I card); then its
+ * columns. A line of blanks is refused with TYPE. After a refusal no byte of counts has changed.
+ */
+uint64_t rotmibel_read_cards(const uint8_t *run, size_t run_len, uint8_t *counts, size_t counts_len);
+
+/*
+ * The next card of a run. To walk a run, hand in 0 as `before` and then each time the number that the call before answered; the walk is over
+ * at IS_NOTHING or a refusal. The card's bytes are those from LINE_NEXT of `before` (0 to begin) up to LINE_END of what is returned; they
+ * can be handed to rotmibel_read_card. A walk goes over the run once.
+ *
+ * Returns LINE_KIND, which is the card's letter ('I', 'L', 'E', 'M', 'P', 'A' or 'R'), LINE_EVENT (the number, from 1, of the event that it
+ * opens or belongs to; 0 before any I card), LINE_END and LINE_NEXT. Or, looked for in this order and with nothing else in the number:
+ * BAD_LENGTH (over ROTMIBEL_BLOCK bytes); IS_NOTHING at the end of the run and after a refusal; BAD_LENGTH (an empty line); TYPE (another
+ * first byte). Any number may be handed in: one that tells of no card before, or of a place past the end, or of event 65,535, which no
+ * run has, gets IS_NOTHING.
+ * A card is told by its letter alone; whether it is accepted, rotmibel_read_cards says. Of a run that it reads, the walk meets exactly the
+ * cards and events that it counts, and ends at the end of the run. Nothing is changed.
+ */
+uint64_t rotmibel_card_line(const uint8_t *run, size_t run_len, uint64_t before);
+
+/*
  * The catalogue lives in a room, ROTMIBEL_ROOM bytes that the caller keeps, saves and loads as he likes. A zeroed room is an empty
  * catalogue. Of a longer room only the first ROTMIBEL_ROOM bytes are looked at and changed. Two rooms that took the same acceptable
  * lines, in any order and with any repeats, are equal byte for byte (docs/PROMISES.md has the premises).
@@ -387,6 +488,67 @@ enum rotmibel_arrival_number {
 #define ROTMIBEL_A_PHASE 180     /* 8 bytes */
 #define ROTMIBEL_A_AUTHOR 188    /* 9 bytes: the author of the detection */
 #define ROTMIBEL_A_DETECTION 197 /* 8 bytes and 3 of its extension */
+
+/* The counts that rotmibel_read_cards writes, and the number of cards of one of the letters. */
+enum rotmibel_card_letter {
+    ROTMIBEL_I_CARDS, ROTMIBEL_L_CARDS, ROTMIBEL_E_CARDS, ROTMIBEL_M_CARDS, ROTMIBEL_P_CARDS, ROTMIBEL_A_CARDS, ROTMIBEL_R_CARDS
+};
+static inline size_t rotmibel_card_count(const uint8_t *counts, unsigned index) {
+    return (size_t)counts[2 * index] << 8 | counts[2 * index + 1];
+}
+
+/* How many numbers the record of a card has, which its kind says; 0 of a kind that is no card's. */
+static inline unsigned rotmibel_card_numbers(const uint8_t *record) {
+    switch (record[0]) {
+    case ROTMIBEL_CARD_I: return 8;
+    case ROTMIBEL_CARD_L: return 4;
+    case ROTMIBEL_CARD_E: return 9;
+    case ROTMIBEL_CARD_M: return 2;
+    case ROTMIBEL_CARD_P: return 1;
+    case ROTMIBEL_CARD_A: return 2;
+    default: return 0;
+    }
+}
+
+/* Whether number `index` (from 0) of a card's record is there; and the number, 0 where it is missing. Of an index that the kind does not
+   have, both are 0. */
+static inline int rotmibel_card_has(const uint8_t *record, unsigned index) {
+    return index < rotmibel_card_numbers(record) && record[1 + index] != 0;
+}
+static inline int64_t rotmibel_card_number(const uint8_t *record, unsigned index) {
+    unsigned numbers = rotmibel_card_numbers(record);
+    return index < numbers ? rotmibel_number_at(record + 1 + numbers + 8 * index) : 0;
+}
+
+/* The numbers of each card's record, scaled by the decimals of their columns: magnitude, amplitude, period and the depth of an L card by
+   100, gap and nearest station by 10, seconds, degrees and errors by 1,000. Times on L and P are seconds from the I card's time. */
+enum rotmibel_card_i_number {
+    ROTMIBEL_CI_YEAR, ROTMIBEL_CI_MONTH, ROTMIBEL_CI_DAY, ROTMIBEL_CI_HOUR, ROTMIBEL_CI_MINUTE, ROTMIBEL_CI_SECOND, ROTMIBEL_CI_IDENTIFIER,
+    ROTMIBEL_CI_PARENT
+};
+enum rotmibel_card_l_number { ROTMIBEL_CL_LATITUDE, ROTMIBEL_CL_LONGITUDE, ROTMIBEL_CL_DEPTH, ROTMIBEL_CL_ORIGIN_TIME };
+enum rotmibel_card_e_number {
+    ROTMIBEL_CE_RMS, ROTMIBEL_CE_LATITUDE_ERROR, ROTMIBEL_CE_LONGITUDE_ERROR, ROTMIBEL_CE_DEPTH_ERROR, ROTMIBEL_CE_ORIGIN_TIME_ERROR,
+    ROTMIBEL_CE_PHASES_PICKED, ROTMIBEL_CE_PHASES_USED, ROTMIBEL_CE_GAP, ROTMIBEL_CE_NEAREST
+};
+enum rotmibel_card_m_number { ROTMIBEL_CM_MAGNITUDE, ROTMIBEL_CM_COUNT };
+enum rotmibel_card_p_number { ROTMIBEL_CP_TIME };
+enum rotmibel_card_a_number { ROTMIBEL_CA_AMPLITUDE, ROTMIBEL_CA_PERIOD };
+
+/* Where the text of each card's record stands; E has none. */
+#define ROTMIBEL_CI_TYPE 73        /* 1 byte: the type of the event */
+#define ROTMIBEL_CL_CONSTRAINTS 37 /* 3 bytes */
+#define ROTMIBEL_CL_METHOD 40      /* 3 bytes */
+#define ROTMIBEL_CM_TYPE 19        /* 1 byte: the type of the magnitude */
+#define ROTMIBEL_CM_AGENCY 20      /* 4 bytes */
+#define ROTMIBEL_CP_STATION 10     /* 15 bytes: station, component and network */
+#define ROTMIBEL_CP_SYSTEM 25      /* 3 bytes: the recording system */
+#define ROTMIBEL_CP_PHASE 28       /* 6 bytes */
+#define ROTMIBEL_CP_DESCRIPTION 34 /* 3 bytes: first motion, weight, appearance */
+#define ROTMIBEL_CA_STATION 19     /* 15 bytes */
+#define ROTMIBEL_CA_SYSTEM 34      /* 3 bytes */
+#define ROTMIBEL_CA_PHASE 37       /* 6 bytes */
+#define ROTMIBEL_CR_REMARK 1       /* 76 bytes */
 
 /* Where the text of an event's record stands: identifier 8 bytes, source 2, version 1, magnitude letter 1, method 1. */
 #define ROTMIBEL_EVENT_IDENTIFIER 172

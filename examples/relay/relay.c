@@ -1,5 +1,5 @@
 /*
- * A relay: takes notices into a catalogue that lives in a file, looks events up in it, and reads phase and arrival blocks.
+ * A relay: takes notices into a catalogue that lives in a file, looks events up in it, and reads phase and arrival blocks and Calnet cards.
  *
  *   relay take ROOM          takes the lines of standard input into the catalogue in the file ROOM, which is made where there is none
  *   relay find ROOM SS ID    looks up source SS and identifier ID, and prints what is held
@@ -7,6 +7,7 @@
  *   relay links ROOM         prints the links
  *   relay block FILE         reads a phase block and prints its records
  *   relay arrivals FILE      the same of an arrival block
+ *   relay cards FILE         reads a run of Calnet cards and prints how many there are, and their records
  *
  * A ROOM of the size that it had before there were links is taken as it is meant, with no links, and saved in today's size.
  *
@@ -198,17 +199,27 @@ struct format {
 static const struct format phases = {"phase", rotmibel_read_block, rotmibel_block_line, show_phase};
 static const struct format arrivals = {"arrival", rotmibel_read_arrival_block, rotmibel_arrival_block_line, show_arrival};
 
-static int read_block(const struct format *of, const char *name) {
-    static uint8_t block[ROTMIBEL_BLOCK + 1];
+/* A block or a run of cards, with a byte more than it may have, so that a longer file is refused. */
+static uint8_t block[ROTMIBEL_BLOCK + 1];
+
+static int read_file(const char *name, size_t *n) {
     FILE *f = fopen(name, "rb");
     if (!f) return fail(name);
-    size_t n = fread(block, 1, sizeof block, f);
+    *n = fread(block, 1, sizeof block, f);
     fclose(f);
+    return 0;
+}
+
+static int refused(uint64_t r) {
+    printf("refused: %u, column %u, line %zu\n", ROTMIBEL_ANSWER(r), ROTMIBEL_COLUMN(r), ROTMIBEL_LINE_NUMBER(r));
+    return 1;
+}
+
+static int read_block(const struct format *of, const char *name) {
+    size_t n;
+    if (read_file(name, &n)) return 1;
     uint64_t r = of->read(block, n);
-    if (ROTMIBEL_ANSWER(r) != ROTMIBEL_READ) {
-        printf("refused: %u, column %u, line %zu\n", ROTMIBEL_ANSWER(r), ROTMIBEL_COLUMN(r), ROTMIBEL_LINE_NUMBER(r));
-        return 1;
-    }
+    if (ROTMIBEL_ANSWER(r) != ROTMIBEL_READ) return refused(r);
     printf("%zu %s lines, %zu comments, %zu bytes\n", ROTMIBEL_PHASE_COUNT(r), of->name, ROTMIBEL_COMMENT_COUNT(r), ROTMIBEL_BYTES_USED(r));
     for (uint64_t before = 0;;) {
         uint64_t line = of->line(block, n, before);
@@ -224,6 +235,100 @@ static int read_block(const struct format *of, const char *name) {
     }
 }
 
+/* What is printed of a card's record: a text, by its place and its size, or a number, by its index and its decimals. */
+struct part {
+    unsigned kind;
+    const char *name;
+    unsigned at;
+    int size; /* 0 of a number */
+    int decimals;
+};
+static const struct part parts[] = {
+    {ROTMIBEL_CARD_I, "identifier", ROTMIBEL_CI_IDENTIFIER, 0, 0},
+    {ROTMIBEL_CARD_I, "parent", ROTMIBEL_CI_PARENT, 0, 0},
+    {ROTMIBEL_CARD_I, "type", ROTMIBEL_CI_TYPE, 1, 0},
+    {ROTMIBEL_CARD_L, "latitude", ROTMIBEL_CL_LATITUDE, 0, 3},
+    {ROTMIBEL_CARD_L, "longitude", ROTMIBEL_CL_LONGITUDE, 0, 3},
+    {ROTMIBEL_CARD_L, "depth", ROTMIBEL_CL_DEPTH, 0, 2},
+    {ROTMIBEL_CARD_L, "origin time", ROTMIBEL_CL_ORIGIN_TIME, 0, 3},
+    {ROTMIBEL_CARD_L, "constraints", ROTMIBEL_CL_CONSTRAINTS, 3, 0},
+    {ROTMIBEL_CARD_L, "method", ROTMIBEL_CL_METHOD, 3, 0},
+    {ROTMIBEL_CARD_E, "rms", ROTMIBEL_CE_RMS, 0, 3},
+    {ROTMIBEL_CARD_E, "depth error", ROTMIBEL_CE_DEPTH_ERROR, 0, 3},
+    {ROTMIBEL_CARD_E, "phases used", ROTMIBEL_CE_PHASES_USED, 0, 0},
+    {ROTMIBEL_CARD_E, "gap", ROTMIBEL_CE_GAP, 0, 1},
+    {ROTMIBEL_CARD_E, "nearest station", ROTMIBEL_CE_NEAREST, 0, 1},
+    {ROTMIBEL_CARD_M, "magnitude", ROTMIBEL_CM_MAGNITUDE, 0, 2},
+    {ROTMIBEL_CARD_M, "type", ROTMIBEL_CM_TYPE, 1, 0},
+    {ROTMIBEL_CARD_M, "count", ROTMIBEL_CM_COUNT, 0, 0},
+    {ROTMIBEL_CARD_M, "agency", ROTMIBEL_CM_AGENCY, 4, 0},
+    {ROTMIBEL_CARD_P, "station", ROTMIBEL_CP_STATION, 15, 0},
+    {ROTMIBEL_CARD_P, "phase", ROTMIBEL_CP_PHASE, 6, 0},
+    {ROTMIBEL_CARD_P, "time", ROTMIBEL_CP_TIME, 0, 3},
+    {ROTMIBEL_CARD_A, "station", ROTMIBEL_CA_STATION, 15, 0},
+    {ROTMIBEL_CARD_A, "phase", ROTMIBEL_CA_PHASE, 6, 0},
+    {ROTMIBEL_CARD_A, "amplitude", ROTMIBEL_CA_AMPLITUDE, 0, 2},
+    {ROTMIBEL_CARD_A, "period", ROTMIBEL_CA_PERIOD, 0, 2},
+    {ROTMIBEL_CARD_R, "remark", ROTMIBEL_CR_REMARK, 76, 0},
+};
+
+static void show_text(const uint8_t *text, const struct part *of) {
+    int n = of->size;
+    while (n > 0 && text[n - 1] == ' ') n--;
+    if (n == 0) printf(" no %s", of->name);
+    else printf(" %s %.*s", of->name, n, (const char *)text);
+}
+
+/* A blank number is missing; one that is 0 is there. */
+static void show_number(const uint8_t *record, const struct part *of) {
+    static const double scales[] = {1, 10, 100, 1000};
+    if (!rotmibel_card_has(record, of->at)) printf(" no %s", of->name);
+    else printf(" %s %.*f", of->name, of->decimals, (double)rotmibel_card_number(record, of->at) / scales[of->decimals]);
+}
+
+/* The time that the other times of the event are relative to. */
+static void show_reference(const uint8_t *record) {
+    int64_t s = rotmibel_card_number(record, ROTMIBEL_CI_SECOND);
+    printf(" %04" PRId64 "-%02" PRId64 "-%02" PRId64, rotmibel_card_number(record, ROTMIBEL_CI_YEAR),
+           rotmibel_card_number(record, ROTMIBEL_CI_MONTH), rotmibel_card_number(record, ROTMIBEL_CI_DAY));
+    printf(" %02" PRId64 ":%02" PRId64 ":%02" PRId64 ".%03" PRId64 ",", rotmibel_card_number(record, ROTMIBEL_CI_HOUR),
+           rotmibel_card_number(record, ROTMIBEL_CI_MINUTE), s / 1000, s % 1000);
+}
+
+static void show_card(const uint8_t *line, size_t n) {
+    uint8_t record[ROTMIBEL_CARD_RECORD];
+    if (ROTMIBEL_ANSWER(rotmibel_read_card(line, n, record, sizeof record)) != ROTMIBEL_READ) return;
+    if (record[0] == ROTMIBEL_CARD_I) show_reference(record);
+    const char *between = "";
+    for (const struct part *p = parts; p < parts + sizeof parts / sizeof *parts; p++) {
+        if (p->kind != record[0]) continue;
+        printf("%s", between);
+        if (p->size) show_text(record + p->at, p);
+        else show_number(record, p);
+        between = ",";
+    }
+    printf("\n");
+}
+
+static int cards(const char *name) {
+    uint8_t counts[ROTMIBEL_CARD_COUNTS];
+    size_t n;
+    if (read_file(name, &n)) return 1;
+    uint64_t r = rotmibel_read_cards(block, n, counts, sizeof counts);
+    if (ROTMIBEL_ANSWER(r) != ROTMIBEL_READ) return refused(r);
+    printf("%zu events, cards:", ROTMIBEL_EVENT_COUNT(r));
+    for (unsigned i = ROTMIBEL_I_CARDS; i <= ROTMIBEL_R_CARDS; i++) printf(" %c %zu", "ILEMPAR"[i], rotmibel_card_count(counts, i));
+    printf("\n");
+    for (uint64_t before = 0;;) {
+        uint64_t card = rotmibel_card_line(block, n, before);
+        const uint8_t *from = block + ROTMIBEL_LINE_NEXT(before);
+        if (ROTMIBEL_LINE_KIND(card) < 'A') return 0; /* no card: the end, for a run that was read has no refused line */
+        printf("event %zu %c:", ROTMIBEL_LINE_EVENT(card), (int)ROTMIBEL_LINE_KIND(card));
+        show_card(from, (size_t)(block + ROTMIBEL_LINE_END(card) - from));
+        before = card;
+    }
+}
+
 int main(int argc, char **argv) {
     if (argc == 3 && strcmp(argv[1], "take") == 0) return take(argv[2]);
     if (argc == 5 && strcmp(argv[1], "find") == 0) return find(argv[2], argv[3], argv[4]);
@@ -231,6 +336,8 @@ int main(int argc, char **argv) {
     if (argc == 3 && strcmp(argv[1], "links") == 0) return links(argv[2]);
     if (argc == 3 && strcmp(argv[1], "block") == 0) return read_block(&phases, argv[2]);
     if (argc == 3 && strcmp(argv[1], "arrivals") == 0) return read_block(&arrivals, argv[2]);
-    fprintf(stderr, "usage: relay take ROOM | relay find ROOM SOURCE IDENTIFIER | relay ask ROOM | relay links ROOM | relay block FILE | relay arrivals FILE\n");
+    if (argc == 3 && strcmp(argv[1], "cards") == 0) return cards(argv[2]);
+    fprintf(stderr, "usage: relay take ROOM | relay find ROOM SOURCE IDENTIFIER | relay ask ROOM | relay links ROOM | relay block FILE"
+                    " | relay arrivals FILE | relay cards FILE\n");
     return 2;
 }
