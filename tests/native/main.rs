@@ -15,6 +15,7 @@ mod lines;
 mod link;
 mod look_ups;
 mod make;
+mod moment;
 mod number;
 mod quick;
 mod room;
