@@ -1,4 +1,4 @@
-/* What the benchmarks of rows and blocks share: time, drawn numbers, and good records of the formats in plain_rows.h. */
+/* What the benchmarks of rows, blocks and cards share: time, drawn numbers, and good records of the formats in plain_rows.h. */
 #include <stdint.h>
 #include <stdio.h>
 #include <string.h>
@@ -16,20 +16,20 @@ static void say_ratio(const char *unit, double scale, double plain, double libra
     printf("  ratio      %7.2f\n", library / plain);
 }
 
-static void make_date(int32_t *v) {
+static inline void make_date(int32_t *v) {
     v[0] = between(0, 9999);
     v[1] = between(1, 12);
     v[2] = between(1, days_in(v[0], v[1]));
 }
 
-static void make_time(int32_t *v) {
+static inline void make_time(int32_t *v) {
     v[0] = between(0, 23);
     v[1] = between(0, 59);
     v[2] = between(0, 59999);
 }
 
 /* A record that has a line: about a third of its numbers are missing. */
-static void make_record(const row_format *row, uint8_t *record) {
+static inline void make_record(const row_format *row, uint8_t *record) {
     static const char texts[] = "ABCDEFGHIJKLMNOPQRSTUVWXYZabcdefgh  0123456789";
     unsigned number = 0, text = 1 + 9 * row->numbers;
     memset(record, 0, row->size);

@@ -93,7 +93,7 @@ pub struct Told {
     pub next: usize,
 }
 
-const NO_LINE: Told = Told { kind: 0, row: 0, end: 0, next: 0 };
+pub const NO_LINE: Told = Told { kind: 0, row: 0, end: 0, next: 0 };
 const LAST_ROW: usize = 65534;
 
 /// The line after the one that `before` tells of; the first line where nothing came before.
@@ -120,11 +120,11 @@ pub fn line_after(format: &Format, block: &[u8], before: Option<Told>) -> Told {
 }
 
 /// The bytes from a place on, one of them kept for the newline.
-fn room_from(at: usize, size: usize) -> usize {
+pub fn room_from(at: usize, size: usize) -> usize {
     size.saturating_sub(at).saturating_sub(1)
 }
 
-fn ended(mut line: Vec<u8>) -> Vec<u8> {
+pub fn ended(mut line: Vec<u8>) -> Vec<u8> {
     line.push(b'\n');
     line
 }

@@ -20,6 +20,11 @@ mod raw {
         pub fn rotmibel_arrival_block_line(block: *const u8, n: usize, before: u64) -> u64;
         pub fn rotmibel_write_arrival_header(out: *mut u8, n: usize, at: usize) -> u64;
         pub fn rotmibel_write_arrival_record(from: *const u8, n: usize, out: *mut u8, m: usize, at: usize) -> u64;
+        pub fn rotmibel_read_card(line: *const u8, n: usize, out: *mut u8, m: usize) -> u64;
+        pub fn rotmibel_write_card(from: *const u8, n: usize, out: *mut u8, m: usize) -> u64;
+        pub fn rotmibel_write_card_record(from: *const u8, n: usize, out: *mut u8, m: usize, at: usize) -> u64;
+        pub fn rotmibel_read_cards(run: *const u8, n: usize, counts: *mut u8, m: usize) -> u64;
+        pub fn rotmibel_card_line(run: *const u8, n: usize, before: u64) -> u64;
     }
 }
 
@@ -136,6 +141,48 @@ impl FileCalls {
             ]
         }
     }
+}
+
+pub fn read_card(line: &[u8], out: &[u8]) -> (u64, Vec<u8>) {
+    lent(out, |p, n| unsafe { raw::rotmibel_read_card(line.as_ptr(), line.len(), p, n) })
+}
+pub fn write_card(from: &[u8], out: &[u8]) -> (u64, Vec<u8>) {
+    lent(out, |p, n| unsafe { raw::rotmibel_write_card(from.as_ptr(), from.len(), p, n) })
+}
+pub fn write_card_record(from: &[u8], out: &[u8], at: usize) -> (u64, Vec<u8>) {
+    lent(out, |p, n| unsafe { raw::rotmibel_write_card_record(from.as_ptr(), from.len(), p, n, at) })
+}
+pub fn read_cards(run: &[u8], counts: &[u8]) -> (u64, Vec<u8>) {
+    lent(counts, |p, n| unsafe { raw::rotmibel_read_cards(run.as_ptr(), run.len(), p, n) })
+}
+pub fn card_line(run: &[u8], before: u64) -> u64 {
+    unsafe { raw::rotmibel_card_line(run.as_ptr(), run.len(), before) }
+}
+
+/// The calls on cards with a null pointer and length 0 for everything that they are lent, in the order above.
+pub fn card_nulls() -> [u64; 5] {
+    let (p, m) = (std::ptr::null(), std::ptr::null_mut());
+    unsafe {
+        [
+            raw::rotmibel_read_card(p, 0, m, 0),
+            raw::rotmibel_write_card(p, 0, m, 0),
+            raw::rotmibel_write_card_record(p, 0, m, 0, 0),
+            raw::rotmibel_read_cards(p, 0, m, 0),
+            raw::rotmibel_card_line(p, 0, 0),
+        ]
+    }
+}
+
+/// A null pointer and length 0 for the line, the record or the run alone, beside a place that is large enough; the four calls that write.
+pub fn card_null_inputs() -> [(u64, Vec<u8>); 4] {
+    let p = std::ptr::null();
+    let place = [7; 82];
+    [
+        lent(&place, |out, n| unsafe { raw::rotmibel_read_card(p, 0, out, n) }),
+        lent(&place, |out, n| unsafe { raw::rotmibel_write_card(p, 0, out, n) }),
+        lent(&place, |out, n| unsafe { raw::rotmibel_write_card_record(p, 0, out, n, 0) }),
+        lent(&place, |out, n| unsafe { raw::rotmibel_read_cards(p, 0, out, n) }),
+    ]
 }
 
 /// Reading and taking a line and both look-ups, with a null pointer and length 0 for everything that they are lent.

@@ -12,7 +12,7 @@ use crate::{calls, cube, room};
 use std::ops::RangeInclusive;
 
 /// Year, month and day.
-type Date = [i64; 3];
+pub type Date = [i64; 3];
 
 /// Years at the ends of the ranges, about year 0 and about hundreds and four hundreds.
 const YEARS: [RangeInclusive<i64>; 20] = [
@@ -37,14 +37,14 @@ const YEARS: [RangeInclusive<i64>; 20] = [
     6068..=6071,
     9996..=9999,
 ];
-const EVENT_YEARS: RangeInclusive<i64> = -999..=6071;
+pub const EVENT_YEARS: RangeInclusive<i64> = -999..=6071;
 const ARRIVAL_YEARS: RangeInclusive<i64> = -8..=9999;
 /// The days 1 to 31 and the numbers next to them; and other numbers, some of them too wide for a day.
-const DAYS: RangeInclusive<i64> = -1..=32;
-const OTHERS: [i64; 6] = [i64::MIN, -10, -9, 99, 100, i64::MAX];
+pub const DAYS: RangeInclusive<i64> = -1..=32;
+pub const OTHERS: [i64; 6] = [i64::MIN, -10, -9, 99, 100, i64::MAX];
 
 /// Of the years above those in this range, each with the months 0 to 13 and with these days.
-fn dates(years: RangeInclusive<i64>, days: impl Iterator<Item = i64> + Clone) -> impl Iterator<Item = Date> {
+pub fn dates(years: RangeInclusive<i64>, days: impl Iterator<Item = i64> + Clone) -> impl Iterator<Item = Date> {
     let years = YEARS.into_iter().flatten().filter(move |y| years.contains(y));
     years.flat_map(move |y| {
         let days = days.clone();
@@ -53,7 +53,7 @@ fn dates(years: RangeInclusive<i64>, days: impl Iterator<Item = i64> + Clone) ->
 }
 
 /// The last days of February and the day after them.
-fn februaries(years: RangeInclusive<i64>) -> impl Iterator<Item = Date> {
+pub fn februaries(years: RangeInclusive<i64>) -> impl Iterator<Item = Date> {
     years.flat_map(|y| (28..=30).map(move |d| [y, 2, d]))
 }
 
@@ -70,7 +70,7 @@ fn spellings(v: i64, width: usize) -> Vec<String> {
 }
 
 /// Every way to write a date with this mark between its parts.
-fn spelled([year, month, day]: Date, mark: &str) -> Vec<String> {
+pub fn spelled([year, month, day]: Date, mark: &str) -> Vec<String> {
     let mut all = Vec::new();
     for y in spellings(year, 4) {
         for m in spellings(month, 2) {
@@ -169,7 +169,7 @@ fn among_others(g: &mut Group) {
 }
 
 /// Dates, and whether each exists, set down by hand.
-const KNOWN: [(i64, i64, i64, bool); 67] = [
+pub const KNOWN: [(i64, i64, i64, bool); 67] = [
     (1999, 4, 30, true),
     (1999, 4, 31, false),
     (1900, 2, 28, true),
@@ -240,7 +240,7 @@ const KNOWN: [(i64, i64, i64, bool); 67] = [
 ];
 
 /// A date with all its zeros and this mark between its parts.
-fn plain([year, month, day]: Date, mark: &str) -> String {
+pub fn plain([year, month, day]: Date, mark: &str) -> String {
     format!("{year:04}{mark}{month:02}{mark}{day:02}")
 }
 
@@ -268,7 +268,7 @@ pub fn known_days(r: &mut Rng) -> Group {
 }
 
 /// Answer and column of a call, held to one of two by whether a day exists.
-fn told(g: &mut Group, returned: u64, exists: bool, yes: u8, no: (u8, usize), input: &[u8]) {
+pub fn told(g: &mut Group, returned: u64, exists: bool, yes: u8, no: (u8, usize), input: &[u8]) {
     let got = g.met(returned) & 0xff_ffff;
     g.same(got, if exists { parts(yes, 0, 0) } else { parts(no.0, no.1, 0) }, &[input]);
 }
@@ -293,7 +293,7 @@ fn known_arrival(g: &mut Group, row: &[u8], rec: &[u8], date: Date, exists: bool
 }
 
 /// Of all days 1 to 31 of 400 years, 146,097 are read.
-fn four_hundred_years(g: &mut Group, first: i64, read: impl Fn(Date) -> u64) {
+pub fn four_hundred_years(g: &mut Group, first: i64, read: impl Fn(Date) -> u64) {
     let months = (first..first + 400).flat_map(|y| (1..=12).map(move |m| (y, m)));
     let all = months.flat_map(|(y, m)| (1..=31).map(move |d| [y, m, d]));
     let read = all.filter(|&date| g.met(read(date)) & 255 == 0).count();

@@ -111,9 +111,9 @@ pub fn example_lines(r: &mut Rng, example: &Example) -> Group {
         all.bytes(r, line);
         for f in file.format.placed() {
             match f.field {
-                Field::Dec(d, low, high) => {
+                Field::Dec(d, ..) => {
                     all.forms(line, f.first, f.last, d);
-                    let (low, high) = f.ends(low, high);
+                    let (low, high) = f.ends(f.field.number().unwrap());
                     for (from, n) in [(f.first, -low), (f.first, high), (f.first - 1, high)] {
                         all.about(line, from, f.last, d, n);
                     }

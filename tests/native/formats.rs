@@ -1,8 +1,9 @@
 //! The file formats as tables: document 01's phase line, and document 02's automatic arrivals by the table of document 003, the days of
 //! their dates by "No thirtieth of February".
 use crate::calendar::days;
+use crate::moment::{Moment, Part};
 use crate::row::Field::{self, *};
-use crate::row::{Format, Moment, Part};
+use crate::row::Format;
 
 const fn dec(d: usize) -> Field {
     Dec(d, i64::MIN, i64::MAX)

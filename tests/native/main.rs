@@ -4,6 +4,13 @@ mod block;
 mod blocks;
 mod calendar;
 mod calls;
+mod card_days;
+mod card_edges;
+mod card_known;
+mod card_known_runs;
+mod card_lines;
+mod card_runs;
+mod cards;
 mod compare;
 mod cube;
 mod days;
@@ -15,6 +22,7 @@ mod lines;
 mod link;
 mod look_ups;
 mod make;
+mod moment;
 mod number;
 mod quick;
 mod room;
@@ -24,6 +32,12 @@ mod rows;
 mod unordered;
 
 use blocks::*;
+use card_days::card_days;
+use card_edges::*;
+use card_known::known_cards;
+use card_known_runs::known_runs;
+use card_lines::*;
+use card_runs::*;
 use compare::{parts, Group};
 use days::*;
 use edges::*;
@@ -48,6 +62,15 @@ fn null_pointers() -> Group {
             g.same(got, wanted, &[]);
         }
     }
+    for (got, wanted) in calls::card_nulls().into_iter().zip([short, none, none, short, parts(0, 0, 0)]) {
+        g.same(got, wanted, &[]);
+    }
+    let [line, alone, placed, run] = calls::card_null_inputs();
+    let place = vec![7; cards::RECORD];
+    g.same(line, (parts(number::LENGTH, 0, 0), place.clone()), &[]);
+    g.same(alone, (none, place.clone()), &[]);
+    g.same(placed, (none, place.clone()), &[]);
+    g.same(run, (parts(0, 0, cards::COUNTS as u64), make::with(&place, 0, &[0; cards::COUNTS])), &[]);
     g
 }
 
@@ -97,6 +120,20 @@ fn main() {
         quick_in_damaged_rooms(&mut r, 60_000 * times),
         quick_in_random_rooms(&mut r, 100_000 * times),
         quick_reads(&mut r, 32_000 * times),
+        known_cards(),
+        known_runs(),
+        cards_read(&mut r, 200_000 * times),
+        card_damages(&mut r),
+        card_numbers(&mut r),
+        card_columns(&mut r),
+        card_days(&mut r),
+        cards_written(&mut r, 120_000 * times),
+        card_records(&mut r),
+        card_runs(&mut r, 30_000 * times),
+        run_orders(&mut r),
+        long_runs(&mut r),
+        walks_from_numbers(&mut r),
+        cards_written_and_read(&mut r, 15_000 * times),
     ]);
     for g in &groups {
         println!("{}: {} calls, {} differ", g.name, g.calls, g.differ);

@@ -1,9 +1,11 @@
 //! Inputs: a small generator of numbers, and lines, records, blocks and rooms, good and damaged.
+mod cards;
 mod cubes;
 mod links;
 mod rooms;
 mod rows;
 
+pub use cards::*;
 pub use cubes::*;
 pub use links::*;
 pub use rooms::*;

@@ -1,5 +1,8 @@
 //! A line of a file format and its record, over the format's table: document 01 ("Numbers in columns", "The phase line", "Order"), document
-//! 02 ("Automatic arrivals", "No thirtieth of February"), docs/RECORDS.md ("Rows of file formats"). The tables are in formats.rs.
+//! 02 ("Automatic arrivals", "No thirtieth of February", "The old Calnet cards"), docs/RECORDS.md ("Rows of file formats"). The tables are
+//! in formats.rs and cards.rs, dates and times in moment.rs.
+use crate::calendar::days;
+use crate::moment::Moment;
 use crate::number::*;
 
 /// What stands in a field.
@@ -16,29 +19,53 @@ pub enum Field {
     Letters(&'static [u8]),
     /// Digits after the point, and the ends of the range.
     Dec(usize, i64, i64),
+    /// Any number.
+    Num(Number),
     /// A date or a time, its numbers there or missing together.
     Marked(&'static Moment),
 }
 use Field::*;
 
-/// A date or a time: three numbers with a mark between them.
-pub struct Moment {
-    pub mark: u8,
-    pub parts: [Part; 3],
-    /// Whether three numbers, each in its range, are one.
-    pub exists: fn(&[i64]) -> bool,
-}
-
-/// One of the numbers of a date or a time, a decimal where it has digits after a point.
-pub struct Part {
-    pub width: usize,
+/// A number by itself: digits after the point where it has one, the ends of the range, whether it must be there.
+#[derive(Clone, Copy)]
+pub struct Number {
     pub decimals: Option<usize>,
     pub low: i64,
     pub high: i64,
+    pub required: bool,
+    /// Whether it is a day, of the year and the month that are the two numbers before it.
+    pub is_day: bool,
+}
+
+impl Number {
+    fn read(&self, cell: &[u8]) -> Result<Option<i64>, ()> {
+        self.decimals.map_or_else(|| read_int(cell), |d| read_dec(cell, d))
+    }
+
+    fn holds(&self, v: i64, w: usize) -> bool {
+        self.decimals.map_or_else(|| holds_int(v, w), |_| holds_dec(v, w))
+    }
+
+    fn write(&self, v: i64, w: usize) -> Vec<u8> {
+        self.decimals.map_or_else(|| write_int(v, w), |d| write_dec(v, w, d))
+    }
+}
+
+impl Field {
+    /// The number, where the field is one by itself.
+    pub fn number(self) -> Option<Number> {
+        match self {
+            Dec(d, low, high) => Some(Number { decimals: Some(d), low, high, required: false, is_day: false }),
+            Num(number) => Some(number),
+            _ => None,
+        }
+    }
 }
 
 pub struct Format {
     pub kind: u8,
+    /// The letter of column 1, which is no field, where the format has one.
+    pub key: Option<u8>,
     /// First and last columns; every other column is blank.
     pub fields: &'static [(usize, usize, Field)],
     /// The header's words and the columns they begin in.
@@ -62,69 +89,10 @@ impl Placed {
         self.last - self.first + 1
     }
 
-    /// The lowest and the highest of a decimal field: of its range, or what the column holds.
-    pub fn ends(&self, low: i64, high: i64) -> (i64, i64) {
-        let w = self.width() as u32;
-        (low.max(1 - 10i64.pow(w - 2)), high.min(10i64.pow(w - 1) - 1))
-    }
-}
-
-impl Part {
-    fn read(&self, cell: &[u8]) -> Option<i64> {
-        self.decimals.map_or_else(|| read_int(cell), |d| read_dec(cell, d)).unwrap_or(None)
-    }
-
-    fn holds(&self, v: i64) -> bool {
-        self.decimals.map_or_else(|| holds_int(v, self.width), |_| holds_dec(v, self.width))
-    }
-
-    fn in_range(&self, v: i64) -> bool {
-        (self.low..=self.high).contains(&v)
-    }
-
-    /// Filled with zeros; no number in range is negative.
-    fn write(&self, v: i64) -> String {
-        let cell = self.decimals.map_or_else(|| write_int(v, self.width), |d| write_dec(v, self.width, d));
-        cell.iter().map(|&b| if b == b' ' { '0' } else { b as char }).collect()
-    }
-}
-
-impl Moment {
-    fn in_range(&self, values: &[i64]) -> bool {
-        self.parts.iter().zip(values).all(|(p, &v)| p.in_range(v)) && (self.exists)(values)
-    }
-
-    /// The numbers of a cell, none where it is blank; the form of all before the range of any.
-    fn read(&self, cell: &[u8]) -> Result<Vec<i64>, u8> {
-        if is_blank(cell) {
-            return Ok(Vec::new());
-        }
-        let mut values = Vec::new();
-        let mut from = 0;
-        for p in &self.parts {
-            if from > 0 && cell[from - 1] != self.mark {
-                return Err(FORM);
-            }
-            values.push(p.read(&cell[from..from + p.width]).ok_or(FORM)?);
-            from += p.width + 1;
-        }
-        if self.in_range(&values) {
-            Ok(values)
-        } else {
-            Err(RANGE)
-        }
-    }
-
-    fn write(&self, values: &[i64]) -> Result<Vec<u8>, u8> {
-        let each = || self.parts.iter().zip(values);
-        if !each().all(|(p, &v)| p.holds(v)) {
-            return Err(WIDE);
-        }
-        if !self.in_range(values) {
-            return Err(RANGE);
-        }
-        let cells: Vec<String> = each().map(|(p, &v)| p.write(v)).collect();
-        Ok(cells.join(&char::from(self.mark).to_string()).into_bytes())
+    /// The lowest and the highest of a number: of its range, or what the column holds.
+    pub fn ends(&self, n: Number) -> (i64, i64) {
+        let digits = self.width() as u32 - n.decimals.is_some() as u32;
+        (n.low.max(1 - 10i64.pow(digits - 1)), n.high.min(10i64.pow(digits) - 1))
     }
 }
 
@@ -133,13 +101,18 @@ impl Format {
         let (mut i, mut numbers, mut texts) = (0, 0, 0);
         while i < fields.len() {
             match fields[i].2 {
-                Dec(..) => numbers += 1,
+                Dec(..) | Num(..) => numbers += 1,
                 Marked(..) => numbers += 3,
                 _ => texts += fields[i].1 - fields[i].0 + 1,
             }
             i += 1;
         }
-        Format { kind, fields, words, width: fields[i - 1].1, numbers, texts }
+        Format { kind, key: None, fields, words, width: fields[i - 1].1, numbers, texts }
+    }
+
+    /// A card, named by the letter of column 1.
+    pub const fn card(key: u8, kind: u8, fields: &'static [(usize, usize, Field)]) -> Format {
+        Format { key: Some(key), ..Format::new(kind, fields, &[]) }
     }
 
     /// The size of a record.
@@ -159,7 +132,7 @@ impl Format {
         let (mut number, mut text) = (0, self.first_text());
         self.fields.iter().map(move |&(first, last, field)| {
             let (next, size) = match field {
-                Dec(..) => (&mut number, 1),
+                Dec(..) | Num(..) => (&mut number, 1),
                 Marked(..) => (&mut number, 3),
                 _ => (&mut text, last - first + 1),
             };
@@ -178,22 +151,35 @@ impl Format {
         record[self.number_bytes(i)].copy_from_slice(&v.to_be_bytes());
     }
 
-    fn get(&self, record: &[u8], i: usize) -> Option<i64> {
+    pub fn get(&self, record: &[u8], i: usize) -> Option<i64> {
         (record[1 + i] == 1).then(|| i64::from_be_bytes(record[self.number_bytes(i)].try_into().unwrap()))
     }
 
+    /// Whether a number is in its range and, where it is a day, exists: year and month stand before it and were in theirs.
+    fn allows(&self, record: &[u8], f: Placed, n: Number, v: i64) -> bool {
+        let before = |k: usize| self.get(record, f.at - k).unwrap();
+        (n.low..=n.high).contains(&v) && (!n.is_day || v <= days(before(2), before(1)))
+    }
+
     pub fn read_line(&self, line: &[u8]) -> Result<Vec<u8>, Refusal> {
+        self.judge_bytes(line)?;
+        self.read_columns(line)
+    }
+
+    /// What is judged of a line before its columns.
+    pub fn judge_bytes(&self, line: &[u8]) -> Result<(), Refusal> {
         if line.len() > self.width {
             return Err((LENGTH, 0));
         }
-        if let Some(i) = line.iter().position(|&b| !is_text(b)) {
-            return Err((BARRED, i + 1));
-        }
+        line.iter().position(|&b| !is_text(b)).map_or(Ok(()), |i| Err((BARRED, i + 1)))
+    }
+
+    pub fn read_columns(&self, line: &[u8]) -> Result<Vec<u8>, Refusal> {
         let mut full = line.to_vec();
         full.resize(self.width, b' ');
         let mut record = vec![0; self.record()];
         record[0] = self.kind;
-        let mut column = 1;
+        let mut column = 1 + self.key.is_some() as usize;
         for f in self.placed() {
             if let Some(other) = (column..f.first).find(|&c| full[c - 1] != b' ') {
                 return Err((SEPARATOR, other));
@@ -205,15 +191,15 @@ impl Format {
     }
 
     fn read_field(&self, cell: &[u8], f: Placed, record: &mut [u8]) -> Result<(), u8> {
+        if let Some(n) = f.field.number() {
+            return match n.read(cell).map_err(|()| FORM)? {
+                None if n.required => Err(REQUIRED),
+                None => Ok(()),
+                Some(v) if !self.allows(record, f, n, v) => Err(RANGE),
+                Some(v) => Ok(self.put(record, f.at, v)),
+            };
+        }
         match f.field {
-            Dec(d, low, high) => {
-                if let Some(v) = read_dec(cell, d).map_err(|()| FORM)? {
-                    if v < low || high < v {
-                        return Err(RANGE);
-                    }
-                    self.put(record, f.at, v);
-                }
-            }
             Marked(moment) => {
                 for (i, v) in moment.read(cell)?.into_iter().enumerate() {
                     self.put(record, f.at + i, v);
@@ -245,6 +231,9 @@ impl Format {
             return Err((SHORT, 0));
         }
         let mut line = vec![b' '; self.width];
+        if let Some(key) = self.key {
+            line[0] = key;
+        }
         for f in self.placed() {
             line[f.first - 1..f.last].copy_from_slice(&self.write_field(record, f)?);
         }
@@ -253,13 +242,16 @@ impl Format {
 
     fn write_field(&self, record: &[u8], f: Placed) -> Result<Vec<u8>, Refusal> {
         let w = f.width();
-        match f.field {
-            Dec(d, low, high) => match self.get(record, f.at) {
+        if let Some(n) = f.field.number() {
+            return match self.get(record, f.at) {
+                None if n.required => Err((REQUIRED, f.first)),
                 None => Ok(vec![b' '; w]),
-                Some(v) if !holds_dec(v, w) => Err((WIDE, f.first)),
-                Some(v) if v < low || high < v => Err((RANGE, f.first)),
-                Some(v) => Ok(write_dec(v, w, d)),
-            },
+                Some(v) if !n.holds(v, w) => Err((WIDE, f.first)),
+                Some(v) if !self.allows(record, f, n, v) => Err((RANGE, f.first)),
+                Some(v) => Ok(n.write(v, w)),
+            };
+        }
+        match f.field {
             Marked(moment) => {
                 let values: Vec<i64> = (f.at..f.at + 3).filter_map(|i| self.get(record, i)).collect();
                 if values.is_empty() {

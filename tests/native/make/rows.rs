@@ -1,7 +1,9 @@
 //! Lines of the file formats, their records, and blocks.
 use super::*;
 use crate::block;
-use crate::row::{Field, Format, Moment, Placed};
+use crate::calendar::days;
+use crate::moment::Moment;
+use crate::row::{Field, Format, Placed};
 
 /// Bytes of the letter columns, and some of none.
 const LETTERS: &[u8] = b"TASamcdieq<>_ xZ";
@@ -30,12 +32,15 @@ pub fn good_record(r: &mut Rng, format: &Format) -> Vec<u8> {
     let mut rec = vec![0; format.record()];
     rec[0] = format.kind;
     for f in format.placed() {
-        match f.field {
-            Field::Dec(_, low, high) => {
-                if !r.one_in(3) {
-                    format.put(&mut rec, f.at, number_in(r, f.ends(low, high)));
-                }
+        if let Some(n) = f.field.number() {
+            if n.required || !r.one_in(3) {
+                let (low, high) = f.ends(n);
+                let last = if n.is_day { days(format.get(&rec, f.at - 2).unwrap(), format.get(&rec, f.at - 1).unwrap()) } else { high };
+                format.put(&mut rec, f.at, number_in(r, (low, last)));
             }
+            continue;
+        }
+        match f.field {
             Field::Marked(moment) => {
                 if !r.one_in(4) {
                     for (i, v) in numbers_of(r, moment).into_iter().enumerate() {
