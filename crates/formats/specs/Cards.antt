@@ -1,7 +1,7 @@
 -- The seven Calnet cards as lines by their first letter. Document 02, Wish 5: the I card opens an event and comes before all its
 -- others, whose order is free.
 use Prim.Native.Nat.{ℕ}
-use mathlib.Core.List.{List, [], _∷_}
+use mathlib.Core.List.{[], _∷_}
 use Rattle.formats.specs.Row.{RowFormat}
 use Rattle.formats.specs.Format.{cardI, cardL, cardE, cardM, cardP, cardA, cardR}
 use Rattle.formats.specs.Lettered.{LineKind, atStart, Lettered}

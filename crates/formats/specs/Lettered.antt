@@ -1,6 +1,5 @@
 -- Lines by their first letter: a list of kinds of lines, and which may come where. Document 01, "The block", its last paragraph, where
 -- a first letter names the kind of line; the Calnet cards of document 02, Wish 5, are the first such lines.
-use mathlib.Core.Path.{_≡_}
 use Prim.Native.Nat.{ℕ, _+_}
 use mathlib.Core.Bool.{Bool, not}
 use mathlib.Core.List.{List, [], _∷_}

@@ -1,7 +1,7 @@
 -- What the code comes to at one line of a run. Helping definitions; what is answered for the run stands in Run.
 use mathlib.Core.Path.{_≡_}
 use Prim.Native.Nat.{ℕ, _+_, _≤_, _<_}
-use mathlib.Core.List.{List, [], _∷_}
+use mathlib.Core.List.{List}
 use lib.ListN.{length, getD}
 use Rattle.columns.specs.Answer.{Answer, ok, refusal}
 use Rattle.columns.specs.Column.{Rec}

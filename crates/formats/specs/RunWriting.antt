@@ -1,15 +1,15 @@
 -- A run of lines by their first letter, as it is written: record by record, each through the part of the caller's buffer that starts
 -- after the line before it, as in the block. Document 01, "The block"; document 02, Wish 5.
 use mathlib.Core.Path.{_≡_}
-use Prim.Native.Nat.{ℕ, _+_, _-_, _≤_}
+use Prim.Native.Nat.{ℕ, _-_, _≤_}
 use mathlib.Core.Bool.{Bool, true, _&&_}
 use mathlib.Core.List.{List, [], _∷_}
 use lib.ListN.{length, take, drop, getD}
-use lib.Dec.{T, eqb, leb}
+use lib.Dec.{T, leb}
 use Rattle.columns.specs.Answer.{Answer}
 use Rattle.formats.specs.Lines.{linesOf}
-use Rattle.formats.specs.BlockWriting.{recordCall, RecordCalls, ReadBack, written}
-use Rattle.formats.specs.Lettered.{LineKind, atStart, Lettered, kindsOf, kindIn, recordFormat}
+use Rattle.formats.specs.BlockWriting.{recordCall, ReadBack, written}
+use Rattle.formats.specs.Lettered.{atStart, Lettered, kindIn, recordFormat}
 use Rattle.formats.specs.Run.{eventsOf, countsSize, readRun}
 use Rattle.formats.specs.declared.run.Run.the-variants as R
 

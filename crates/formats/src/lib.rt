@@ -1,4 +1,4 @@
-// Formats: CUBE messages, rows and blocks of file formats (the ISF phase and arrival lines), and the bytes of their records.
+// Formats: CUBE messages, rows of file formats (the ISF phase and arrival lines in blocks, the Calnet cards in runs), and the bytes of their records.
 pub mod block;
 pub mod block_line;
 pub mod block_reader;

@@ -6,14 +6,13 @@ use Prim.Native.Nat.{ℕ, _+_, _-_, _≤_, _<_}
 use native.Mathlib.Omega.{arith}
 use lib.ListN.{length, take, getD}
 use borrow.Author.Tests.{ne-eqb, eq-eqb}
-use lib.Dec.{eqb}
 use lib.Seq.{slice, length-slice, getD-drop, getD-take}
 use Rattle.columns.specs.declared.group.Three.{Three}
 use Rattle.columns.specs.declared.group.Group.{Group}
 use Rattle.columns.specs.declared.number.Form.{Form}
 use Rattle.columns.specs.declared.number.Field.{Field}
 use Rattle.columns.specs.declared.cursor.CellRead.{CellRead}
-use Rattle.columns.specs.Answer.{pick, Answer, ok, refusal, notBlank, wrongLetter}
+use Rattle.columns.specs.Answer.{Answer, ok, refusal, notBlank, wrongLetter}
 use Rattle.columns.specs.Bytes.{isNone, skip, trim, allBlank, member}
 use Rattle.columns.specs.Number.{formWidth, fieldOf}
 use Rattle.columns.specs.Column.{Slot, Rec, Range, allowed, Rule, Col, numeric, text, letter, group, printed, width, firstWidth, secondStart, secondEnd, thirdStart, groupWidth}

@@ -14,7 +14,7 @@ use Rattle.columns.specs.declared.number.Form.{Form}
 use Rattle.columns.specs.declared.number.Digits.{Digits}
 use Rattle.columns.specs.declared.number.Plain.{Plain}
 use Rattle.columns.specs.Answer.{pick}
-use Rattle.columns.specs.Bytes.{isDigit, trim, skip}
+use Rattle.columns.specs.Bytes.{isDigit, skip}
 use Rattle.columns.specs.Number.{digits, number, signedNumber, scan, fraction, intField, decField, intBytes, decBytes, digitsOf, holdsInt, holdsDec, formWidth, goodForm, fieldOf, holds, fieldBytes, zeroFilled, plainScan, Quick}
 use Rattle.columns.proofs.laws.Clear.{Clear, clear-int, clear-dec, clear-append, clear-mark, clear-digits}
 use Rattle.columns.proofs.laws.Written.{digits-length, power-le}

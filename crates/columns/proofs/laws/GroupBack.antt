@@ -15,7 +15,7 @@ use Rattle.columns.specs.declared.group.Three.{Three}
 use Rattle.columns.specs.declared.group.Part.{Part}
 use Rattle.columns.specs.declared.group.Group.{Group}
 use Rattle.columns.specs.Answer.{pick, ok, refusal, outOfRange, tooWide}
-use Rattle.columns.specs.Bytes.{trim, allBlank, skip}
+use Rattle.columns.specs.Bytes.{allBlank, skip}
 use Rattle.columns.specs.Number.{formWidth, goodForm, fieldOf, holds, zeroFilled}
 use Rattle.columns.specs.Column.{Slot, missing, given, Rec, allowed, partRange, firstWidth, secondStart, secondEnd, thirdStart, groupWidth, goodPart, goodGroup}
 use Rattle.columns.specs.Table.{placed}

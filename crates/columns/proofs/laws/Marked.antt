@@ -3,7 +3,7 @@ use mathlib.Core.Path.{_≡_, refl}
 use mathlib.Core.List.{[], _∷_}
 use lib.IntN.{pos, negsuc}
 use Rattle.columns.specs.Answer.{ok, refusal, badForm, tooWide}
-use Rattle.columns.specs.Bytes.{trim, skip}
+use Rattle.columns.specs.Bytes.{skip}
 use Rattle.columns.specs.Number.{digits, number, signedNumber, scan, fraction, decField, fieldOf, holdsDec, holds}
 use Rattle.columns.specs.Column.{missing, given, allowed, asHeld, optional, Col, decimal}
 use Rattle.columns.specs.Reading.{oneNumber, readCell}

@@ -15,7 +15,7 @@ use Rattle.columns.specs.declared.number.Form.{Form}
 use Rattle.columns.specs.declared.group.Group.{Group}
 use Rattle.columns.specs.Bytes.{isNone, skip, allBlank}
 use Rattle.columns.specs.Number.{formWidth, goodForm, fieldOf, holds, holdsInt, holdsDec, fieldBytes}
-use Rattle.columns.specs.Column.{mark, Slot, missing, given, Rec, joined, allowed, Rule, anyText, noBrackets, notBlankFirst, notAllBlank, blankOrFilled, Col, numeric, text, letter, group, blank, printed, width, slots, texts, goodGroup, goodCol, good, widths, allSlots}
+use Rattle.columns.specs.Column.{mark, Slot, missing, given, Rec, joined, allowed, Rule, anyText, noBrackets, notBlankFirst, notAllBlank, blankOrFilled, Col, numeric, text, letter, group, printed, width, slots, texts, goodGroup, goodCol, good, widths, allSlots}
 use Rattle.columns.specs.Group.{groupHolds, groupRange, groupBytes, putGroup}
 use Rattle.columns.specs.Reading.{nothing, judge, judgePrinted, ruleRefuses, ruleNumber, judgeText, asText, readCell, readColumns}
 use Rattle.columns.specs.Writing.{putNumber, writeCell, writeColumns, writeLine}

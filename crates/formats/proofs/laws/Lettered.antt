@@ -8,7 +8,7 @@ use native.Mathlib.Omega.{arith}
 use lib.Dec.{eqb, leb}
 use lib.ListN.{length, drop, getD}
 use lib.Seq.{getD-drop}
-use borrow.Author.Tests.{eq-eqb, ne-eqb, eqb-true, eqb-false, lt-ltb, le-ltb}
+use borrow.Author.Tests.{eq-eqb, ne-eqb, eqb-true, eqb-false, lt-ltb, le-ltb, le-leb}
 use Rattle.columns.specs.Answer.{pick, Answer, ok, refusal, wrongLength, barredByte, tooShort}
 use Rattle.columns.specs.Column.{Rec, Col, widths}
 use Rattle.columns.specs.Table.{outcomeOf}
@@ -22,10 +22,10 @@ use Rattle.formats.specs.Block.{outOfPlace}
 use Rattle.formats.specs.Format.{formatOf}
 use Rattle.formats.specs.BlockWriting.{recordCall, RepliedFrom}
 use Rattle.formats.specs.RunWriting.{letteredCall}
-use Rattle.formats.specs.Lettered.{LineKind, Lettered, kindsOf, named, leading, readPlaced, intoRecord, readLetteredInto, numbered, kindIn, writeLettered, kindsAt}
+use Rattle.formats.specs.Lettered.{LineKind, Lettered, kindsOf, named, leading, readPlaced, readAs, intoRecord, readLetteredInto, numbered, kindIn, writeLettered, kindsAt}
 use Rattle.formats.specs.RunSteps.{kindAt, Leads, steppedBy, stepOf}
 use Rattle.formats.specs.declared.Reply.{Reply}
-use Rattle.formats.proofs.laws.Lines.{upto-nil, upto-stop, upto-more}
+use Rattle.formats.proofs.laws.Lines.{upto-stop, upto-more}
 use Rattle.formats.proofs.laws.CubeRecord.{replied-refused, replied-as}
 use Rattle.formats.specs.declared.Reply.the-variants as R
 use Rattle.formats.specs.declared.lettered.Lead.{Lead}
@@ -117,6 +117,10 @@ module _ (letters l : List ℕ) where
 pub placed-row : (cs : List Col) (l : List ℕ) → readPlaced true cs l ≡ readRow cs l
 unfolding readPlaced readRow
 placed-row cs l = refl
+
+-- so a line that may come where it stands is read there as it is alone
+pub as-alone : (k : LineKind) (before : ℕ) (l : List ℕ) → before ≤ k .after → readAs (ok k) before l ≡ readRow (formatOf (k .kind) .columns) l
+as-alone k before l h = rw (le-leb before (k .after) h) (placed-row (formatOf (k .kind) .columns) l)
 
 module _ (p : Bool) (cs : List Col) (l : List ℕ) where
   pub placed-yes : p ≡ true → outcomeOf (readRow cs l) ≡ outcomeOf (readPlaced p cs l)

@@ -3,28 +3,21 @@
 use Prim.Native.Nat.{ℕ, zero, suc, _+_, _-_, _*_, _≤_, _<_}
 use mathlib.Core.Path.{_≡_, refl, sym, ap, subst, _∙_}
 use mathlib.Core.Bool.{Bool, true, false}
-use mathlib.Core.List.{List, [], _∷_, _++_, append-assoc, append-nil}
-use mathlib.Core.Logic.{inl, inr}
+use mathlib.Core.List.{List, [], _∷_}
 use native.Mathlib.Omega.{arith}
-use native.Mathlib.Numerals.{add-one}
 use lib.Dec.{eqb}
 use lib.ListN.{length, take, drop, getD, set, replicate, length-set, length-replicate}
-use lib.Seq.{getD-set-same, getD-set-other, take-suc, take-all}
-use borrow.Author.Tests.{eq-eqb, ne-eqb, eqb-true, eqb-false, lt-ltb, le-ltb}
-use borrow.Rule.Slice.PartMut.{putMid, midOf, mid-len}
+use lib.Seq.{getD-set-same, getD-set-other}
+use borrow.Author.Tests.{eqb-true, eqb-false, lt-ltb, le-ltb}
 use Rattle.columns.specs.Answer.{pick, Answer, ok, refusal, wrongLength, tooShort}
 use Rattle.columns.specs.Column.{Rec}
-use Rattle.columns.specs.Table.{over, placed}
-use Rattle.columns.specs.Word.{wordBytes}
-use Rattle.columns.proofs.laws.Word.{word-length}
-use Rattle.columns.proofs.laws.Places.{placed-placed, part-placed}
+use Rattle.columns.specs.Table.{over}
 use Rattle.formats.specs.Lines.{linesOf}
 use Rattle.formats.specs.Record.{wordsBy}
-use Rattle.formats.specs.BlockReader.{lineOf, nextOf}
-use Rattle.formats.specs.Lettered.{LineKind, atStart, Lettered, kindsOf, named, leading, readPlaced, readAs, readLettered, formatFor, kindsAt}
+use Rattle.formats.specs.Lettered.{LineKind, atStart, Lettered, kindsOf, named, leading, readAs, readLettered, kindsAt}
 use Rattle.formats.specs.Run.{begun, countsOf, eventsOf, onLine, rankOf, firstRefused, countsSize, readRun, countBytes, countsAfter, RunRead}
-use Rattle.formats.specs.RunSteps.{stepOf, steppedBy, Empty, Tallied, Judged}
-use Rattle.formats.proofs.laws.Lines.{lt-or-le, lines-none}
+use Rattle.formats.specs.RunSteps.{stepOf, steppedBy, Empty, Judged}
+use Rattle.formats.proofs.laws.Lines.{lines-none}
 use Rattle.formats.proofs.laws.BlockReader.{lines-past, FoundAt, line-is, next-after}
 use Rattle.formats.proofs.laws.BlockBounds.{lines-count}
 use Rattle.formats.specs.declared.run.Run.{Run}
@@ -132,9 +125,6 @@ module _ (ks : List LineKind) (s : List ℕ) where
     module _ {start end next : ℕ} (f : FoundAt s at start end next) where
       abbrev here : List ℕ
       here = take (end - start) (drop start s)
-
-      rest : List (List ℕ)
-      rest = linesOf (drop (nextOf s at) s)
 
       lines-here : linesOf (drop at s) ≡ here ∷ linesOf (drop next s)
       lines-here = lines-past s at (f .inside) ∙ rw (line-is f, f .after)

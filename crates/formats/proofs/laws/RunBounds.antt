@@ -1,34 +1,32 @@
 -- How large the numbers answered for lines by their first letter, and for runs of them, can be; two bytes hold every count.
 use Prim.Native.Nat.{ℕ, suc, _+_, _*_, _≤_, _<_}
-use mathlib.Core.Path.{_≡_, refl, subst, ap, _∙_}
+use mathlib.Core.Path.{_≡_, refl, subst}
 use mathlib.Core.Bool.{Bool, true, false, not}
 use mathlib.Core.List.{List, [], _∷_}
 use mathlib.Core.Logic.{inl, inr}
 use native.Mathlib.Omega.{arith}
 use lib.Dec.{eqb, leb, ltb}
 use lib.ListN.{length, getD}
-use borrow.Author.Tests.{lt-ltb, le-ltb, lt-leb, le-leb, ne-eqb, eqb-true}
-use Rattle.columns.specs.Answer.{pick, Answer, ok, refusal, isOk, barredByte, differs, wrongLength, tooShort}
+use borrow.Author.Tests.{lt-ltb, le-ltb, lt-leb, le-leb, ne-eqb}
+use Rattle.columns.specs.Answer.{pick, Answer, ok, refusal, isOk, differs, wrongLength, tooShort}
 use Rattle.columns.specs.Column.{Rec, widths}
-use Rattle.columns.specs.Reading.{readColumns}
 use Rattle.columns.specs.Row.{Fits}
 use Rattle.columns.proofs.laws.Bounds.{columnOf, pick-bound, barred-bound, read-bound}
-use Rattle.formats.specs.Row.{lowestBarredByte, blankFilled, readRowInto}
+use Rattle.formats.specs.Row.{lowestBarredByte, blankFilled}
 use Rattle.formats.specs.Lines.{onFirst, linesOf}
-use Rattle.formats.specs.Block.{outOfPlace}
 use Rattle.formats.specs.BlockReader.{lineOf, nextOf}
-use Rattle.formats.specs.BlockWalk.{noLine, nothing}
+use Rattle.formats.specs.BlockWalk.{noLine}
 use Rattle.formats.specs.Format.{formatOf}
 use Rattle.formats.specs.Lettered.{LineKind, atStart, Lettered, kindsOf, formatFor, named, leading, readPlaced, readAs, readLettered, intoRecord, readLetteredInto, kindIn, writeLettered}
 use Rattle.formats.specs.Run.{begun, eventsOf, onLine, rankOf, firstRefused, countsSize, readRun}
-use Rattle.formats.specs.RunWalk.{eventAfter, toldAs, toldAt, firstTold, nextTold}
+use Rattle.formats.specs.RunWalk.{toldAs, toldAt, firstTold, nextTold}
 use Rattle.formats.specs.RunWriting.{letteredCall}
 use Rattle.formats.proofs.laws.Lines.{lt-or-le}
 use Rattle.formats.proofs.laws.Format.{format-fits}
 use Rattle.formats.proofs.laws.RowRecordBack.{row-into-bound, row-into-size, row-from-bound, row-from-size}
-use Rattle.formats.proofs.laws.CubeRecordBack.{sizeOf, size-bound}
+use Rattle.formats.proofs.laws.CubeRecordBack.{sizeOf}
 use Rattle.formats.proofs.laws.BlockBounds.{lines-count, SmallLine, small-nothing, small-pick, end-low, after-low, record-column}
-use Rattle.formats.proofs.laws.RunWriting.{All}
+use Rattle.formats.proofs.laws.RunWriting.{All, leading-all}
 use Rattle.formats.specs.declared.block_walk.BlockLine.{BlockLine}
 use Rattle.formats.specs.declared.run.Run.{Run}
 use Rattle.formats.specs.declared.run.Run.the-variants as R
@@ -162,20 +160,6 @@ run-small L g b room = by-room (ltb room (countsSize L))
     by-room false = by-size
 
 -- ---- a line of a walk
-
-named-all : (P : LineKind → Type 0) (ks : List LineKind) (b : ℕ) (k : LineKind) → All P ks → named ks b ≡ ok k → P k
-unfolding named
-named-all P [] b k a e = let z : _≡_ {A = ℕ} 0 1 = cc in let y : ⊥ = omega arith in absurd y
-named-all P (x ∷ ks) b k a e = by-letter (eqb b (x .letter)) (named-all P ks b k (a .1)) e
-  where
-    by-letter : (t : Bool) → (named ks b ≡ ok k → P k) → pick t (ok x) (named ks b) ≡ ok k → P k
-    by-letter true g e = let d : x ≡ k = cc in subst P d (a .0)
-    by-letter false g e = g e
-
-leading-all : (P : LineKind → Type 0) (ks : List LineKind) (l : List ℕ) (k : LineKind) → All P ks → leading ks l ≡ ok k → P k
-unfolding leading
-leading-all P ks [] k a e = let z : _≡_ {A = ℕ} 0 1 = cc in let y : ⊥ = omega arith in absurd y
-leading-all P ks (b ∷ l) k a e = named-all P ks b k a e
 
 -- letters are bytes, and the refusals of a letter too
 module _ (L : Lettered) (low : All (λ (k : LineKind). k .letter < 256) (kindsOf L)) where

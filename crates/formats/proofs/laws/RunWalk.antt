@@ -9,14 +9,14 @@ use native.Mathlib.Omega.{arith}
 use lib.Dec.{eqb, ltb}
 use lib.ListN.{length, take, drop, getD}
 use borrow.Author.Tests.{eq-eqb, ne-eqb, lt-ltb, le-ltb, ltb-false, lt-leb, le-leb}
-use Rattle.columns.specs.Answer.{pick, Answer, ok, refusal, isOk, wrongLength, tooShort}
+use Rattle.columns.specs.Answer.{pick, Answer, ok, refusal, wrongLength, tooShort}
 use Rattle.columns.specs.Column.{Rec}
-use Rattle.formats.specs.Lines.{linesOf, lineEnd, upTo, endFrom}
+use Rattle.formats.specs.Lines.{linesOf, lineEnd, endFrom}
 use Rattle.formats.specs.BlockReader.{lineOf, nextOf}
 use Rattle.formats.specs.BlockWalk.{noLine, nothing}
-use Rattle.formats.specs.Lettered.{LineKind, atStart, Lettered, kindsOf, named, leading, readAs, readLettered, kindsAt}
+use Rattle.formats.specs.Lettered.{LineKind, atStart, Lettered, kindsOf, named, leading, readAs, kindsAt}
 use Rattle.formats.specs.Run.{onLine, rankOf, firstRefused, countsSize, readRun, eventsOf}
-use Rattle.formats.specs.RunWalk.{eventAfter, toldAs, toldAt, firstTold, nextTold, MetLine, metOf, WalkedFrom, ended, met}
+use Rattle.formats.specs.RunWalk.{eventAfter, toldAs, toldAt, firstTold, nextTold, metOf, WalkedFrom, ended, met}
 use Rattle.formats.proofs.laws.Lines.{lt-or-le, lines-none}
 use Rattle.formats.proofs.laws.BlockReader.{FoundAt, line-is, lines-past, next-range, after-line, past-newline, past-end}
 use Rattle.formats.proofs.laws.Lettered.{kind-found, kind-none, end-place}
