@@ -1,12 +1,12 @@
 // CUBE lines: E and DE messages, read and written; a line of any kind read.
 use super::check::check_character;
 use super::link::read_link;
+use super::ranges::EVENT_RANGES;
 use super::ranges::HOUR;
 use super::ranges::LATITUDE;
 use super::ranges::LONGITUDE;
 use super::ranges::MINUTE;
 use super::ranges::MONTH;
-use super::ranges::RANGES;
 use super::ranges::SECOND;
 use super::ranges::YEAR;
 use columns::Outcome;
@@ -104,7 +104,7 @@ fn read_event(
         &EVENT_ROWS,
         0,
         EVENT_COLUMNS,
-        &RANGES,
+        &EVENT_RANGES,
         &EVENT_LETTERS,
         flags,
         values,
@@ -198,7 +198,7 @@ pub fn write_event(flags: &[u8; 19], values: &[i64; 19], text: &[u8; 13], out: &
         &EVENT_ROWS,
         0,
         EVENT_COLUMNS,
-        &RANGES,
+        &EVENT_RANGES,
         &EVENT_LETTERS,
         &mut line,
         2,

@@ -6,7 +6,7 @@ use super::cube::EVENT_ROWS;
 use super::cube::LINK;
 use super::cube::Read;
 use super::cube::read_line;
-use super::ranges::RANGES;
+use super::ranges::EVENT_RANGES;
 use columns::bytes::first_barred;
 use columns::column::column_in;
 use columns::judge::cell_ok;
@@ -62,7 +62,7 @@ pub fn is_event(line: &[u8]) -> bool
     if first_barred(&line[0..79], 1, 3, 13) != 0 {
         return false;
     }
-    let got = judge_sealed(line, 2, &line[0..79], &EVENT_ROWS, &RANGES);
+    let got = judge_sealed(line, 2, &line[0..79], &EVENT_ROWS, &EVENT_RANGES);
     if !got.ok {
         return false;
     }

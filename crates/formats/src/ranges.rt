@@ -24,7 +24,30 @@ pub const LATITUDE_3: u32 = 23;
 
 pub const LONGITUDE_3: u32 = 25;
 
-// Places 0 to 2 name no span: they stand for "as held", "not negative" and "a day".
+// In each list places 0 to 2 name no span: they stand for "as held", "not negative" and "a day".
+
+// The ranges of an E line. They are a list of their own, since a list is copied at each call.
+pub const EVENT_RANGES: [i64; 17] = [
+    0, // as held
+    0, // not negative
+    0, // a day
+    -999, // year
+    6070,
+    1, // month
+    12,
+    0, // hour
+    23,
+    0, // minute
+    59,
+    0, // second x 10
+    599,
+    -900000, // latitude x 10000
+    900000,
+    -1800000, // longitude x 10000
+    1800000,
+];
+
+// The ranges of file formats' rows, those that an E line has too at the same places.
 pub const RANGES: [i64; 27] = [
     0, // as held
     0, // not negative
