@@ -1,4 +1,7 @@
-// The ranges of specs/Ranges.antt: each is named by the place of its first end.
+// The ranges of specs/Ranges.antt: each is named by the place of its first end. A list is copied at each call, so E lines have one of their
+// own. In both, places 0 to 2 name no span: they stand for "as held", "not negative" and "a day".
+
+// Of both lists.
 pub const YEAR: u32 = 3;
 
 pub const MONTH: u32 = 5;
@@ -7,26 +10,13 @@ pub const HOUR: u32 = 7;
 
 pub const MINUTE: u32 = 9;
 
-pub const SECOND: u32 = 11;
+pub const LATITUDE: u32 = 11;
 
-pub const LATITUDE: u32 = 13;
+pub const LONGITUDE: u32 = 13;
 
-pub const LONGITUDE: u32 = 15;
+// Of the E line's.
+pub const SECOND: u32 = 15;
 
-pub const DISTANCE: u32 = 17;
-
-pub const AZIMUTH: u32 = 19;
-
-// As SECOND, LATITUDE and LONGITUDE, of columns with three decimals.
-pub const SECOND_3: u32 = 21;
-
-pub const LATITUDE_3: u32 = 23;
-
-pub const LONGITUDE_3: u32 = 25;
-
-// In each list places 0 to 2 name no span: they stand for "as held", "not negative" and "a day".
-
-// The ranges of an E line. They are a list of their own, since a list is copied at each call.
 pub const EVENT_RANGES: [i64; 17] = [
     0, // as held
     0, // not negative
@@ -39,16 +29,26 @@ pub const EVENT_RANGES: [i64; 17] = [
     23,
     0, // minute
     59,
-    0, // second x 10
-    599,
     -900000, // latitude x 10000
     900000,
     -1800000, // longitude x 10000
     1800000,
+    0, // second x 10
+    599,
 ];
 
-// The ranges of file formats' rows, those that an E line has too at the same places.
-pub const RANGES: [i64; 27] = [
+// Of the rows' of file formats; the last three are as SECOND, LATITUDE and LONGITUDE, of columns with three decimals.
+pub const DISTANCE: u32 = 15;
+
+pub const AZIMUTH: u32 = 17;
+
+pub const SECOND_3: u32 = 19;
+
+pub const LATITUDE_3: u32 = 21;
+
+pub const LONGITUDE_3: u32 = 23;
+
+pub const RANGES: [i64; 25] = [
     0, // as held
     0, // not negative
     0, // a day
@@ -60,8 +60,6 @@ pub const RANGES: [i64; 27] = [
     23,
     0, // minute
     59,
-    0, // second x 10
-    599,
     -900000, // latitude x 10000
     900000,
     -1800000, // longitude x 10000
