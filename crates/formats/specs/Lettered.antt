@@ -3,14 +3,13 @@
 use Prim.Native.Nat.{ℕ, _+_}
 use mathlib.Core.Bool.{Bool, not}
 use mathlib.Core.List.{List, [], _∷_}
-use lib.ListN.{length, drop, getD}
-use lib.Dec.{eqb, leb, ltb}
-use Rattle.columns.specs.Answer.{pick, Answer, ok, refusal, unless, differs, wrongLength, barredByte}
-use Rattle.columns.specs.Column.{Rec, Col, widths}
-use Rattle.columns.specs.Reading.{readColumns}
+use lib.ListN.{drop, getD}
+use lib.Dec.{eqb, leb}
+use Rattle.columns.specs.Answer.{pick, Answer, ok, refusal, unless, wrongLength}
+use Rattle.columns.specs.Column.{Rec, Col}
 use Rattle.columns.specs.Writing.{inPlace}
 use Rattle.formats.specs.Cube.{wrongType}
-use Rattle.formats.specs.Row.{RowFormat, lowestBarredByte, blankFilled, readRowInto, writeRowFrom}
+use Rattle.formats.specs.Row.{RowFormat, wellMade, readFilled, readRowInto, writeRowFrom}
 use Rattle.formats.specs.Block.{outOfPlace}
 use Rattle.formats.specs.Format.{formatOf}
 
@@ -51,12 +50,9 @@ leading ks (b ∷ l) = named ks b
 
 -- ---- a line of a run, after a line of rank `before`
 
--- over the full width 1; the lowest barred byte 2; 14 where it may not come there; then columns left to right
+-- 1 and 2 as for any row; 14 where it may not come there; then its columns
 unfoldable pub readPlaced : Bool → List Col → List ℕ → Answer Rec
-readPlaced placed cs l =
-    unless (ltb (widths cs) (length l)) wrongLength 0
-    (unless (differs (lowestBarredByte l) 0) barredByte (lowestBarredByte l)
-    (unless (not placed) outOfPlace 0 (readColumns cs [] 0 (blankFilled (widths cs) l))))
+readPlaced placed cs l = wellMade cs l (unless (not placed) outOfPlace 0 (readFilled cs l))
 
 abbrev pub readAs : Answer LineKind → ℕ → List ℕ → Answer Rec
 readAs (ok k) before l = readPlaced (leb before (k .after)) (formatFor k .columns) l

@@ -29,12 +29,19 @@ lowestBarredByte l = barred 0 0 1 l
 abbrev pub blankFilled : ℕ → List ℕ → List ℕ
 blankFilled width l = over l (replicate width 32)
 
--- over the full width 1; the lowest barred byte 2; then columns left to right, 4 to 8
-unfoldable pub readRow : List Col → List ℕ → Answer Rec
-readRow cs l =
+-- what is asked of a line before anything else: over the full width 1; the lowest barred byte 2
+abbrev pub wellMade : List Col → List ℕ → Answer Rec → Answer Rec
+wellMade cs l rest =
     unless (ltb (widths cs) (length l)) wrongLength 0
-    (unless (differs (lowestBarredByte l) 0) barredByte (lowestBarredByte l)
-    (readColumns cs [] 0 (blankFilled (widths cs) l)))
+    (unless (differs (lowestBarredByte l) 0) barredByte (lowestBarredByte l) rest)
+
+-- the columns of a line, left to right, 4 to 8
+abbrev pub readFilled : List Col → List ℕ → Answer Rec
+readFilled cs l = readColumns cs [] 0 (blankFilled (widths cs) l)
+
+-- a line: 1, 2, then its columns
+unfoldable pub readRow : List Col → List ℕ → Answer Rec
+readRow cs l = wellMade cs l (readFilled cs l)
 
 -- what stands in the lent record: nothing where the length or a byte is refused, else what was read before the first refusal
 unfoldable pub rowPart : List Col → List ℕ → Rec
