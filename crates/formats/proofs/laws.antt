@@ -1,4 +1,5 @@
 pub mod Check
+pub mod CheckEight
 pub mod Link
 pub mod EventColumns
 pub mod Cube

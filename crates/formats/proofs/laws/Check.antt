@@ -1,11 +1,12 @@
 -- Laws of the check sum: one byte more, and the end.
-use mathlib.Core.Path.{_≡_, sym, _∙_}
-use mathlib.Core.List.{List}
-use Prim.Native.Nat.{ℕ, _+_, _%_, _≤_, _<_}
-use lib.ListN.{length, drop, getD, drop-of-length-le}
+use mathlib.Core.Path.{_≡_, refl, sym, _∙_}
+use mathlib.Core.List.{List, [], _∷_, _++_}
+use Prim.Native.Nat.{ℕ, _+_, _-_, _*_, _/_, _%_, _≤_, _<_}
+use lib.ListN.{length, take, drop, getD, drop-of-length-le, take-append-drop}
 use native.Mathlib.Numerals.{add-one}
 use native.Mathlib.Omega.{arith}
-use lib.Seq.{drop-cons}
+use lib.Bits.{bitOr, or-shifted-r}
+use lib.Seq.{drop-cons, drop-drop}
 use Rattle.formats.specs.Check.{checkSum, rotated, checkCharacter}
 
 module _ (l : List ℕ) (i : ℕ) where
@@ -16,6 +17,16 @@ module _ (l : List ℕ) (i : ℕ) where
   pub sum-none : (s : ℕ) → length l ≤ i → checkSum s (drop i l) ≡ s
   unfolding checkSum
   sum-none s h = rw (drop-of-length-le l {i = i} h)
+
+-- some bytes more, after those that come before them
+sum-append : (a b : List ℕ) (s : ℕ) → checkSum s (a ++ b) ≡ checkSum (checkSum s a) b
+unfolding checkSum
+sum-append [] b s = refl
+sum-append (x ∷ a) b s = sum-append a b ((rotated s + x) % 65536)
+
+pub sum-part : (l : List ℕ) (i n s : ℕ) → checkSum (checkSum s (take n (drop i l))) (drop (i + n) l) ≡ checkSum s (drop i l)
+sum-part l i n s =
+    rw (← drop-drop n i l, ← sum-append (take n (drop i l)) (drop n (drop i l)) s, take-append-drop n (drop i l))
 
 -- three bytes more
 pub sum-three : (l : List ℕ) (i s a b d : ℕ) → i + 3 ≤ length l → a ≡ (rotated s + getD l i 0) % 65536 → b ≡ (rotated a + getD l (i + 1) 0) % 65536 → d ≡ (rotated b + getD l (i + 2) 0) % 65536 → checkSum d (drop (i + 3) l) ≡ checkSum s (drop i l)
@@ -30,3 +41,19 @@ sum-three l i s a b d h p q r =
 pub character-is : (l : List ℕ) (s : ℕ) → s ≡ checkSum 0 l → 36 + s % 91 ≡ checkCharacter l
 unfolding checkCharacter
 character-is l s e = rw e
+
+-- a rotation by shifts: what is shifted out on the right comes in on the left
+pub rotated-or : (s : ℕ) → s < 65536 → bitOr (s / 2) (s * 32768 % 65536) ≡ rotated s
+rotated-or s h =
+    let e : s * 32768 % 65536 ≡ s % 2 * 32768 = omega arith in
+    rw e (or-shifted-r (s % 2) 15 (s / 2) (omega arith) ∙ omega arith)
+
+-- 4096 is 45 * 91 + 1: the high bits of a sum can be added to the low ones, and a 91st of what that gives is 45 of 4096 parts of it
+pub modulo-folded : (s : ℕ) → s < 65536 → (s / 4096 + s % 4096) - (s / 4096 + s % 4096 + 1) * 45 / 4096 * 91 ≡ s % 91
+modulo-folded s h =
+    let f : (s / 4096 + s % 4096) % 91 ≡ s % 91 = omega arith in
+    let q : (s / 4096 + s % 4096 + 1) * 45 / 4096 ≡ (s / 4096 + s % 4096) / 91 = part (s / 4096 + s % 4096) (omega arith) in
+    rw q (omega arith)
+  where
+    part : (y : ℕ) → y ≤ 4110 → (y + 1) * 45 / 4096 ≡ y / 91
+    part y g = omega arith
