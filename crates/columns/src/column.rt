@@ -58,7 +58,7 @@ pub const CLOCK: u32 = 0;
 pub const DATE: u32 = 1;
 
 // The parts of a row.
-#[derive(Drop)]
+#[derive(Clone, Copy)]
 pub struct Column {
     pub kind: u32,
     pub place: usize,

@@ -14,14 +14,14 @@ use super::group::{Group, Three, group_at, group_width, in_group, read_group};
 use super::number::{Field, read_dec, read_int};
 
 // How many columns of the line are done.
-#[derive(Drop)]
+#[derive(Clone, Copy)]
 pub struct Cursor {
     pub at: usize,
 }
 
 // What a column holds: a number that is missing or given, a group that is missing or given, its own bytes (text or a
 // letter), nothing (printed bytes); or the number and column of its refusal.
-#[derive(Drop)]
+#[derive(Clone, Copy)]
 pub enum Cell {
     Absent,
     Number(i64),
@@ -32,19 +32,19 @@ pub enum Cell {
     Refused(u8, usize),
 }
 
-#[derive(Drop)]
+#[derive(Clone, Copy)]
 pub struct NumberRead {
     pub field: Field,
     pub next: Cursor,
 }
 
-#[derive(Drop)]
+#[derive(Clone, Copy)]
 pub struct GroupRead {
     pub three: Three,
     pub next: Cursor,
 }
 
-#[derive(Drop)]
+#[derive(Clone, Copy)]
 pub struct CellRead {
     pub cell: Cell,
     pub next: Cursor,

@@ -14,7 +14,7 @@ use super::number::{Field, Form, read_number, width_of};
 use super::written::{holds_number, magnitude_of, write_zeros};
 
 // What a group holds: nothing, its three numbers, or bytes of no good form.
-#[derive(Drop)]
+#[derive(Clone, Copy)]
 pub enum Three {
     Missing,
     Given(i64, i64, i64),
@@ -22,7 +22,7 @@ pub enum Three {
 }
 
 // A number of a group: its form and the ends of its range.
-#[derive(Drop)]
+#[derive(Clone, Copy)]
 pub struct Part {
     pub form: Form,
     pub low: i64,
@@ -30,7 +30,7 @@ pub struct Part {
 }
 
 // Three numbers, the mark between them, and whether the third is a day of the month and year before it.
-#[derive(Drop)]
+#[derive(Clone, Copy)]
 pub struct Group {
     pub mark: u8,
     pub dated: bool,

@@ -1,5 +1,7 @@
 // Columns and numbers: the lowest of the three layers. A line format is a table of columns; one reader and one writer
 // interpret any table.
+#![tactic(auto)]
+
 pub mod bytes;
 pub mod calendar;
 pub mod column;
@@ -34,7 +36,7 @@ pub const SHORT: u8 = 11;
 pub const DROPPED: u8 = 17;
 
 // Done, or the number of a refusal and its column.
-#[derive(Drop)]
+#[derive(Clone, Copy)]
 pub enum Outcome {
     Done,
     Refused(u8, usize),

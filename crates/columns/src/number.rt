@@ -6,14 +6,14 @@ ghost use Rattle.columns.specs.Number.{digits, number, scan, fraction, magnitude
 use super::bytes::{is_digit, skip_blanks};
 
 // Digits to the last column.
-#[derive(Drop)]
+#[derive(Clone, Copy)]
 pub enum Digits {
     Number(u64),
     NoNumber,
 }
 
 // A sign and a number, before minus zero becomes zero.
-#[derive(Drop)]
+#[derive(Clone, Copy)]
 pub enum Scan {
     Blank,
     Number(bool, u64),
@@ -21,7 +21,7 @@ pub enum Scan {
 }
 
 // What a number field holds.
-#[derive(Drop)]
+#[derive(Clone, Copy)]
 pub enum Field {
     Missing,
     Value(i64),
@@ -29,14 +29,14 @@ pub enum Field {
 }
 
 // The form of a number: iW, or fW.D.
-#[derive(Drop)]
+#[derive(Clone, Copy)]
 pub enum Form {
     Integer(usize),
     Decimal(usize, usize),
 }
 
 // Blanks and then digits: nothing but blanks, the number, or anything else.
-#[derive(Drop)]
+#[derive(Clone, Copy)]
 pub enum Plain {
     Blank,
     Number(u64),

@@ -11,7 +11,7 @@ use super::column::{column_in, slots_in, texts_in, width_in};
 use super::writer::write_columns;
 
 // The columns of a record past the end of its line: how many, and the numbers and the text bytes before them.
-#[derive(Drop)]
+#[derive(Clone, Copy)]
 pub struct Past {
     pub rows: usize,
     pub numbers: usize,

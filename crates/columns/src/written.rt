@@ -80,7 +80,7 @@ pub fn write_int(out: &mut [u8], v: i64)
 }
 
 // What is still to be written to the left: digits of a number, then its minus, then blanks.
-#[derive(Drop)]
+#[derive(Clone, Copy)]
 pub struct Pen {
     pub more: bool,
     pub minus: bool,

@@ -1,0 +1,10 @@
+use borrow.Author.Tests.{lt-leb, le-leb}
+use Rattle.columns.proofs.bytes.is_digit.Goals as goal
+
+pub returns-then-b-lt48 : goal.returns-then-b-lt48
+returns-then-b-lt48 c =
+    rw (lt-leb _ _ c.if-b-lt48.true)
+
+pub returns : goal.returns
+returns c =
+    rw (le-leb _ _ c.if-b-lt48.false)

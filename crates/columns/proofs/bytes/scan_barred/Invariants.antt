@@ -1,0 +1,16 @@
+use borrow.Author.Rules.{rules}
+use native.Mathlib.Omega.{arith}
+use mathlib.Core.Path.{◌≡◌, sym, ◌∙◌}
+use Prim.Native.Nat.{◌≤◌, ◌-◌, ◌+◌}
+use lib.ListN.{length, drop}
+use Rattle.columns.proofs.laws.Bytes.{barred_next, barred_here, barred_none}
+use Rattle.columns.specs.Bytes.{barred}
+use Rattle.columns.proofs.bytes.scan_barred.Given as goal
+
+abbrev pub invariant-loop-i : goal.invariant-loop-i
+invariant-loop-i l =
+    (l.i ≤ length l.s) × (barred l.from l.to l.column l.s ≡ barred l.from l.to (l.column + l.i) (drop l.i l.s))
+
+abbrev pub decreases-loop-i : goal.decreases-loop-i
+decreases-loop-i l =
+    length l.s - l.i

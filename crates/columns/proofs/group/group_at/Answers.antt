@@ -1,0 +1,12 @@
+use borrow.Author.Rules.{rules}
+use mathlib.Core.Path.{◌∙◌}
+use borrow.Author.Tests.{eq-eqb, ne_eqb}
+use Rattle.columns.proofs.group.group_at.Goals as goal
+
+pub returns-then-number-eq0 : goal.returns-then-number-eq0
+returns-then-number-eq0 c =
+    rw (eq-eqb _ _ c.if-number-eq0.true) c.clock_time.ensures
+
+pub returns : goal.returns
+returns c =
+    rw (ne_eqb _ _ c.if-number-eq0.false) c.calendar_date.ensures

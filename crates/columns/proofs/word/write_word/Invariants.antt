@@ -1,0 +1,17 @@
+use Rattle.columns.specs.Word.{word_bytes}
+use Rattle.columns.proofs.laws.Word.{word_start, word_turn, word_end}
+use lib.ListN.{length-set, length, drop}
+use borrow.Author.Rules.{rules}
+use native.Mathlib.Omega.{arith}
+use mathlib.Core.Path.{◌≡◌, sym, ◌∙◌}
+use Prim.Native.Nat.{◌≤◌}
+use mathlib.Core.List.{◌++◌}
+use Rattle.columns.proofs.word.write_word.Given as goal
+
+abbrev pub invariant-loop-i : goal.invariant-loop-i
+invariant-loop-i l =
+    (l.i ≤ length l.out) × (length l.out ≡ length l.initial.out) × (word_bytes (length l.initial.out) l.n ≡ word_bytes l.i l.m ++ drop l.i l.out)
+
+abbrev pub decreases-loop-i : goal.decreases-loop-i
+decreases-loop-i l =
+    l.i

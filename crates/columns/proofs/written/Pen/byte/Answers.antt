@@ -1,0 +1,6 @@
+use borrow.Author.Rules.{rules}
+use Rattle.columns.proofs.written.Pen.byte.Goals as goal
+
+pub returns-then-self : goal.returns-then-self
+returns-then-self c =
+    rw c.if-self.true
