@@ -9,7 +9,6 @@ use lib.Dec.{eqb}
 use borrow.Author.Tests.{ne_eqb, eq-eqb, eqb-true}
 use Rattle.columns.specs.declared.Outcome.{Outcome}
 use Rattle.columns.specs.Answer.{is_ok, pick, Answer, ok, refusal, differs, both, chain}
-use Rattle.columns.specs.Number.{value}
 use Rattle.columns.specs.Table.{over, outcome_of, Wrote, laid}
 use Rattle.columns.specs.declared.Outcome.TheVariants as O
 

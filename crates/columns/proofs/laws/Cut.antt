@@ -1,31 +1,30 @@
 -- Laws of a list of columns cut at a place: a line that ends there means what it means with the rest blank; what is written of a
 -- record whose rest is not filled is the whole of it; the loops of the code.
 use mathlib.Core.Path.{◌≡◌, refl, sym, ap, ◌∙◌}
-use mathlib.Core.Bool.{Bool, true, false, not, ◌&&◌}
+use mathlib.Core.Bool.{Bool, true, false, not}
 use mathlib.Core.List.{List, [], ◌∷◌, ◌++◌, append_assoc}
 use Prim.Native.Nat.{ℕ, zero, suc, ◌+◌, ◌-◌, ◌≤◌, ◌<◌}
 use native.Mathlib.Omega.{arith}
-use native.Mathlib.Numerals.{add-one}
 use lib.IntN.{ℤ}
-use lib.ListN.{length, take, drop, get_or, replicate, length-append, length-drop, length-replicate, replicate-append-replicate, drop_of_length-le, take-append-drop}
+use lib.ListN.{length, take, drop, get_or, replicate, length-drop, length-replicate, replicate-append-replicate, take-append-drop}
 use lib.Seq.{slice, length-take-le, take_all, drop-drop, take_at, drop_at, take-append-le, drop-append-le}
 use lib.Dec.{T, eqb, ltb}
-use borrow.Author.Tests.{lt-ltb, le-ltb, ltb-false, eq-eqb, ne_eqb, eqb-true}
+use borrow.Author.Tests.{lt-ltb, le-ltb, ltb-false, eqb-true}
 use Rattle.columns.specs.Answer.{pick, Answer, ok, refusal, unless, differs, bad_form, too_short, chain, both}
 use Rattle.columns.specs.Bytes.{is_none, skip, all_blank, member}
-use Rattle.columns.specs.Column.{Slot, missing, given, Rec, joined, allowed, Rule, any_text, no_brackets, not_blank_first, not_all_blank, blank_or_filled, rule_bars, Col, numeric, text, letter, group, printed, width, slots, texts, good_col, good, widths, all_slots, all_texts}
-use Rattle.columns.specs.Reading.{nothing, rule_refuses, read_cell, read_columns}
+use Rattle.columns.specs.Column.{Slot, missing, given, Rec, joined, Rule, any_text, no_brackets, not_blank_first, not_all_blank, blank_or_filled, rule_bars, Col, numeric, text, letter, group, printed, width, slots, texts, good_col, good, widths, all_slots, all_texts}
+use Rattle.columns.specs.Reading.{rule_refuses, read_cell, read_columns}
 use Rattle.columns.specs.Writing.{write_cell, write_columns, write_line}
 use Rattle.columns.specs.Table.{flags_of, column_in, col_of, columns_of, slots_by, texts_by, width_by, Table}
 use Rattle.columns.specs.declared.column.Column.{Column}
-use Rattle.columns.specs.Row.{all_same, alike, whole, fills_text}
+use Rattle.columns.specs.Row.{all_same, whole, fills_text}
 use Rattle.columns.specs.Cut.{field_dropped, left_out, with_left_out, not_filled, first_filled, filled_past, write_cut, write_cut_whole, may_be_blank, all_may_be_blank, Writable}
 use Rattle.columns.specs.declared.row.Past.{Past}
 use Rattle.columns.proofs.laws.Tests.{T_and, and_T, T_true, both_true}
 use Rattle.columns.proofs.laws.Answers.{passed, differs_not, differs_same, differs_is}
 use Rattle.columns.proofs.laws.Clear.{clear_barred, clear_blanks}
 use Rattle.columns.proofs.laws.NumberBack.{trim_blanks}
-use Rattle.columns.proofs.laws.Columns.{columns_back, columns_size, chain_same}
+use Rattle.columns.proofs.laws.Columns.{columns_back, chain_same}
 use Rattle.columns.proofs.laws.Bounds.{column_of, pick_bound, write_bound}
 use Rattle.columns.proofs.laws.Table.{sizes, columns_more, columns_none, columns_append, table_line, table_fits, table_k, table_t, table_next}
 use Rattle.columns.proofs.laws.Row.{flags_take, flags_drop, line_there}

@@ -1,4 +1,3 @@
-use borrow.Author.Rules.{rules}
 use mathlib.Core.Path.{sym}
 use Rattle.columns.proofs.laws.Bytes.{plain_none}
 use Rattle.columns.proofs.bytes.barred_between.Goals as goal

@@ -1,8 +1,5 @@
 use borrow.Author.Rules.{rules}
-use mathlib.Core.Path.{◌≡◌, refl}
-use Prim.Native.Nat.{◌≤◌, ◌-◌}
-use lib.ListN.{length, take, drop}
-use mathlib.Core.List.{◌++◌}
+use mathlib.Core.Path.{refl}
 use Rattle.columns.proofs.laws.Bytes.{copy_turn, copy_end}
 use Rattle.columns.proofs.bytes.copy.Goals as goal
 

@@ -2,7 +2,6 @@ use Rattle.columns.proofs.laws.Places.{chars_placed}
 use Prim.Native.Nat.{◌+◌}
 use lib.ListN.{length}
 use mathlib.Core.Path.{refl}
-use borrow.Author.Rules.{rules}
 use Rattle.columns.proofs.bytes.copy_at.Goals as goal
 
 pub returns : goal.returns

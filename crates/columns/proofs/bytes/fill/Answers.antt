@@ -1,7 +1,5 @@
-use lib.ListN.{replicate, length, take}
 use borrow.Author.Rules.{rules}
-use mathlib.Core.Path.{◌≡◌, refl}
-use Prim.Native.Nat.{◌≤◌, ◌-◌}
+use mathlib.Core.Path.{refl}
 use Rattle.columns.proofs.laws.Bytes.{fill_one, fill_turn, fill_end}
 use Rattle.columns.proofs.bytes.fill.Goals as goal
 

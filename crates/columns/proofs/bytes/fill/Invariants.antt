@@ -1,8 +1,6 @@
 use lib.ListN.{replicate, length, take}
-use borrow.Author.Rules.{rules}
-use mathlib.Core.Path.{◌≡◌, refl}
+use mathlib.Core.Path.{◌≡◌}
 use Prim.Native.Nat.{◌≤◌, ◌-◌}
-use Rattle.columns.proofs.laws.Bytes.{fill_one, fill_turn, fill_end}
 use Rattle.columns.proofs.bytes.fill.Given as goal
 
 abbrev pub invariant-loop-i : goal.invariant-loop-i

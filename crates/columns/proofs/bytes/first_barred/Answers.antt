@@ -1,10 +1,9 @@
 use borrow.Author.Rules.{rules}
 use native.Mathlib.Omega.{arith}
 use mathlib.Core.Path.{sym, ◌∙◌}
-use Prim.Native.Nat.{◌≤◌, ◌-◌, ◌+◌}
+use Prim.Native.Nat.{◌-◌, ◌+◌}
 use lib.ListN.{length}
 use borrow.Author.Count.{below_none}
-use Rattle.columns.specs.Bytes.{Free}
 use Rattle.columns.proofs.laws.Bytes.{part_last, part_found, part_free}
 use Rattle.columns.proofs.bytes.first_barred.Goals as goal
 

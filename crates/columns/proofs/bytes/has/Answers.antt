@@ -1,9 +1,6 @@
-use lib.Seq.{slice}
 use borrow.Author.Rules.{rules}
-use mathlib.Core.Path.{◌≡◌, refl, sym, ◌∙◌}
-use Prim.Native.Nat.{◌≤◌, ◌-◌}
+use mathlib.Core.Path.{refl, sym, ◌∙◌}
 use Rattle.columns.proofs.laws.Bytes.{member_here, member_next, member_past, member_end}
-use Rattle.columns.specs.Bytes.{member}
 use Rattle.columns.proofs.bytes.has.Goals as goal
 
 pub loop-i-init : goal.loop-i-init

@@ -1,8 +1,6 @@
 use lib.Seq.{slice}
-use borrow.Author.Rules.{rules}
-use mathlib.Core.Path.{◌≡◌, refl, sym, ◌∙◌}
+use mathlib.Core.Path.{◌≡◌}
 use Prim.Native.Nat.{◌≤◌, ◌-◌}
-use Rattle.columns.proofs.laws.Bytes.{member_here, member_next, member_past, member_end}
 use Rattle.columns.specs.Bytes.{member}
 use Rattle.columns.proofs.bytes.has.Given as goal
 

@@ -1,4 +1,3 @@
-use borrow.Author.Rules.{rules}
 use borrow.Author.Tests.{not-true, not-false}
 use mathlib.Core.Path.{sym, ◌∙◌}
 use Rattle.columns.proofs.laws.Bytes.{barred_low, barred_high, barred_plain, barred_bracket}

@@ -1,11 +1,8 @@
 use borrow.Author.Rules.{rules}
 use borrow.Author.Count.{below_none, below_more}
 use borrow.Author.Tests.{not-true}
-use mathlib.Core.Path.{◌≡◌, sym, ◌∙◌}
-use mathlib.Core.Bool.{true, and-eq-true_iff}
-use Prim.Native.Nat.{◌≤◌, ◌-◌}
-use lib.ListN.{length}
-use Rattle.columns.specs.Bytes.{Plain}
+use mathlib.Core.Path.{sym, ◌∙◌}
+use mathlib.Core.Bool.{and-eq-true_iff}
 use Rattle.columns.proofs.laws.Bytes.{allowed_of}
 use Rattle.columns.proofs.bytes.plain_part.Goals as goal
 

@@ -1,12 +1,8 @@
-use borrow.Author.Rules.{rules}
-use borrow.Author.Count.{below_none, below_more}
-use borrow.Author.Tests.{not-true}
-use mathlib.Core.Path.{◌≡◌, sym, ◌∙◌}
-use mathlib.Core.Bool.{true, and-eq-true_iff}
+use mathlib.Core.Path.{◌≡◌}
+use mathlib.Core.Bool.{true}
 use Prim.Native.Nat.{◌≤◌, ◌-◌}
 use lib.ListN.{length}
 use Rattle.columns.specs.Bytes.{Plain}
-use Rattle.columns.proofs.laws.Bytes.{allowed_of}
 use Rattle.columns.proofs.bytes.plain_part.Given as goal
 
 abbrev pub invariant-loop-i : goal.invariant-loop-i

@@ -1,8 +1,8 @@
 use borrow.Author.Rules.{rules}
 use native.Mathlib.Omega.{arith}
 use mathlib.Core.Path.{◌≡◌, refl, sym, ◌∙◌}
-use Prim.Native.Nat.{◌≤◌, ◌-◌, ◌+◌}
-use lib.ListN.{length, take}
+use Prim.Native.Nat.{◌-◌, ◌+◌}
+use lib.ListN.{length}
 use borrow.Author.Tests.{not-true, not-false}
 use Rattle.columns.proofs.laws.Bytes.{same_length, parts_more, parts_apart, parts_last}
 use Rattle.columns.proofs.bytes.same.Goals as goal

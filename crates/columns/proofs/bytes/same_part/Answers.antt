@@ -1,9 +1,6 @@
 use borrow.Author.Rules.{rules}
-use mathlib.Core.Path.{◌≡◌, refl, sym, ap, ◌∙◌}
-use Prim.Native.Nat.{◌≤◌, ◌-◌}
-use lib.ListN.{length, drop}
+use mathlib.Core.Path.{refl, sym, ap, ◌∙◌}
 use mathlib.Core.Bool.{◌&&◌, and-true}
-use Rattle.columns.specs.Bytes.{same_bytes}
 use Rattle.columns.proofs.laws.Bytes.{same_turn, same_end}
 use Rattle.columns.proofs.bytes.same_part.Goals as goal
 

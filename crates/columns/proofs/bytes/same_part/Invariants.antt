@@ -1,10 +1,8 @@
-use borrow.Author.Rules.{rules}
-use mathlib.Core.Path.{◌≡◌, refl, sym, ap, ◌∙◌}
+use mathlib.Core.Path.{◌≡◌}
 use Prim.Native.Nat.{◌≤◌, ◌-◌}
 use lib.ListN.{length, drop}
-use mathlib.Core.Bool.{◌&&◌, and-true}
+use mathlib.Core.Bool.{◌&&◌}
 use Rattle.columns.specs.Bytes.{same_bytes}
-use Rattle.columns.proofs.laws.Bytes.{same_turn, same_end}
 use Rattle.columns.proofs.bytes.same_part.Given as goal
 
 abbrev pub invariant-loop-i : goal.invariant-loop-i

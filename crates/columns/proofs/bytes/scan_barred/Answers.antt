@@ -1,10 +1,8 @@
 use borrow.Author.Rules.{rules}
 use native.Mathlib.Omega.{arith}
 use mathlib.Core.Path.{◌≡◌, sym, ◌∙◌}
-use Prim.Native.Nat.{◌≤◌, ◌-◌, ◌+◌}
-use lib.ListN.{length, drop}
+use Prim.Native.Nat.{◌+◌}
 use Rattle.columns.proofs.laws.Bytes.{barred_next, barred_here, barred_none}
-use Rattle.columns.specs.Bytes.{barred}
 use Rattle.columns.proofs.bytes.scan_barred.Goals as goal
 
 pub loop-i-init : goal.loop-i-init

@@ -1,9 +1,6 @@
-use borrow.Author.Rules.{rules}
-use native.Mathlib.Omega.{arith}
-use mathlib.Core.Path.{◌≡◌, sym, ◌∙◌}
+use mathlib.Core.Path.{◌≡◌}
 use Prim.Native.Nat.{◌≤◌, ◌-◌, ◌+◌}
 use lib.ListN.{length, drop}
-use Rattle.columns.proofs.laws.Bytes.{barred_next, barred_here, barred_none}
 use Rattle.columns.specs.Bytes.{barred}
 use Rattle.columns.proofs.bytes.scan_barred.Given as goal
 

@@ -1,8 +1,5 @@
-use mathlib.Core.Path.{◌≡◌, ◌∙◌}
-use Prim.Native.Nat.{◌≤◌, ◌-◌}
+use mathlib.Core.Path.{◌∙◌}
 use borrow.Author.Rules.{rules}
-use lib.Seq.{slice}
-use Rattle.columns.specs.Bytes.{skip}
 use Rattle.columns.proofs.laws.Bytes.{skip_same, skip_other, skip_none}
 use Rattle.columns.proofs.bytes.skip.Goals as goal
 

@@ -1,9 +1,7 @@
-use mathlib.Core.Path.{◌≡◌, ◌∙◌}
+use mathlib.Core.Path.{◌≡◌}
 use Prim.Native.Nat.{◌≤◌, ◌-◌}
-use borrow.Author.Rules.{rules}
 use lib.Seq.{slice}
 use Rattle.columns.specs.Bytes.{skip}
-use Rattle.columns.proofs.laws.Bytes.{skip_same, skip_other, skip_none}
 use Rattle.columns.proofs.bytes.skip.Given as goal
 
 -- `columns::skip` meets its contract. Assumes nothing.

@@ -1,4 +1,3 @@
-use borrow.Author.Rules.{rules}
 use Rattle.columns.proofs.laws.Ranges.{get_d_past}
 use Rattle.columns.proofs.column.end_at.Goals as goal
 

@@ -1,5 +1,4 @@
 use borrow.Author.Rules.{rules}
-use lib.Dec.{eqb}
 use Rattle.columns.proofs.laws.Rules.{blank_test, rule_any, rule_filled, rule_first, rule_blank, rule_form}
 use Rattle.columns.proofs.column.refuses_text.Goals as goal
 

@@ -1,4 +1,3 @@
-use borrow.Author.Rules.{rules}
 use Rattle.columns.proofs.laws.Rules.{number_low, number_form}
 use Rattle.columns.proofs.column.rule_number.Goals as goal
 

@@ -1,4 +1,3 @@
-use borrow.Author.Rules.{rules}
 use mathlib.Core.Path.{◌∙◌}
 use borrow.Author.Tests.{ne_eqb, eq-eqb}
 use Rattle.columns.proofs.laws.Table.{group_good}

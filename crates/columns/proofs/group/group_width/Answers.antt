@@ -1,4 +1,3 @@
-use borrow.Author.Rules.{rules}
 use native.Mathlib.Omega.{arith}
 use Rattle.columns.proofs.laws.Form.{form_wide}
 use Rattle.columns.proofs.laws.GroupBack.{fine, part_form}

@@ -1,4 +1,3 @@
-use borrow.Author.Rules.{rules}
 use Rattle.columns.proofs.laws.Judge.{any_rule, told_rule}
 use Rattle.columns.proofs.judge.text_ok.Goals as goal
 

@@ -2,7 +2,6 @@ use mathlib.Core.Path.{sym, ◌∙◌, ap}
 use native.Mathlib.Omega.{arith}
 use mir.Syntax.{w64}
 use mir.ValLaws.{to_z-of_z}
-use borrow.Author.Rules.{rules}
 use Rattle.columns.specs.Number.{magnitude, value}
 use Rattle.columns.specs.declared.number.Field.TheVariants as F
 use Rattle.columns.proofs.number.field_of.Goals as goal

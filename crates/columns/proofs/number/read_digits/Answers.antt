@@ -1,12 +1,9 @@
 use borrow.Author.Rules.{rules}
 use native.Mathlib.Omega.{arith}
-use mathlib.Core.Path.{◌≡◌, sym, ◌∙◌}
-use Prim.Native.Nat.{◌≤◌, ◌-◌, ◌+◌, ◌*◌, ◌^◌}
-use lib.Seq.{slice}
+use mathlib.Core.Path.{sym, ◌∙◌}
 use borrow.Author.Tests.{not-true, not-false}
 use lib.ListN.{get_or}
 use Rattle.columns.proofs.laws.Number.{digits_other, digits_step, digits_none, digit_bounds, room_le, room_at}
-use Rattle.columns.specs.Number.{digits}
 use Rattle.columns.proofs.number.read_digits.Goals as goal
 
 pub returns-then-not-is_digit : goal.returns-then-not-is_digit

@@ -1,11 +1,6 @@
-use borrow.Author.Rules.{rules}
-use native.Mathlib.Omega.{arith}
-use mathlib.Core.Path.{◌≡◌, sym, ◌∙◌}
+use mathlib.Core.Path.{◌≡◌}
 use Prim.Native.Nat.{◌≤◌, ◌-◌, ◌+◌, ◌*◌, ◌^◌}
 use lib.Seq.{slice}
-use borrow.Author.Tests.{not-true, not-false}
-use lib.ListN.{get_or}
-use Rattle.columns.proofs.laws.Number.{digits_other, digits_step, digits_none, digit_bounds, room_le, room_at}
 use Rattle.columns.specs.Number.{digits}
 use Rattle.columns.proofs.number.read_digits.Given as goal
 

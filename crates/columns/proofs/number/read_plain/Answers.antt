@@ -1,12 +1,8 @@
 use borrow.Author.Rules.{rules}
 use native.Mathlib.Omega.{arith}
-use mathlib.Core.Path.{◌≡◌, refl, sym, ◌∙◌}
-use Prim.Native.Nat.{◌≤◌, ◌<◌, ◌-◌, ◌+◌, ◌*◌, ◌^◌}
-use mathlib.Core.Bool.{false}
-use mathlib.Core.Logic.{⊎_elim}
+use mathlib.Core.Path.{refl, sym, ◌∙◌}
+use Prim.Native.Nat.{◌≤◌, ◌<◌, ◌-◌}
 use lib.ListN.{length, get_or}
-use lib.Seq.{slice}
-use Rattle.columns.specs.Number.{plain_scan}
 use Rattle.columns.proofs.laws.Form.{plain_end, walk_room, walk_digit_on, walk_stop, walk_blank_on, walk_other}
 use Rattle.columns.proofs.laws.Number.{one_room, room_le, digit_bounds}
 use Rattle.columns.proofs.number.read_plain.Goals as goal

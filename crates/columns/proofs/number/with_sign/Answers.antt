@@ -4,7 +4,6 @@ use lib.IntN.{ℤ}
 use mir.Syntax.{w64}
 use mir.Val.{SFits}
 use mir.ValLaws.{to_z_pos, to_z-of_z}
-use borrow.Author.Rules.{rules}
 use Rattle.columns.proofs.laws.Number.{neg_is, neg_fits}
 use Rattle.columns.proofs.number.with_sign.Goals as goal
 

@@ -1,12 +1,12 @@
 use borrow.Author.Rules.{rules}
 use native.Mathlib.Omega.{arith}
 use mathlib.Core.Path.{◌≡◌, refl, sym, ap, ◌∙◌}
-use Prim.Native.Nat.{ℕ, ◌≤◌, ◌-◌, ◌+◌}
+use Prim.Native.Nat.{ℕ, ◌-◌, ◌+◌}
 use lib.ListN.{take, drop}
 use Rattle.columns.specs.Column.{width}
 use Rattle.columns.specs.Table.{columns_of, col_of}
 use Rattle.columns.proofs.laws.Table.{sizes, table_fits, table_k, table_t}
-use Rattle.columns.proofs.laws.Reader.{Going, going_start, going_row, going_last, going_end, flags_size, values_size, text_size, turn_readable, turn_storable, turn_refused, turn_done, part_bytes}
+use Rattle.columns.proofs.laws.Reader.{going_start, going_row, going_last, going_end, flags_size, values_size, text_size, turn_readable, turn_storable, turn_refused, turn_done, part_bytes}
 use Rattle.columns.proofs.reader.read_columns.Goals as goal
 
 pub loop-i-init : goal.loop-i-init

@@ -1,4 +1,3 @@
-use borrow.Author.Rules.{rules}
 use mathlib.Core.Path.{◌∙◌}
 use Rattle.columns.proofs.laws.Row.{alike_none, alike_some}
 use Rattle.columns.proofs.row.all_alike.Goals as goal

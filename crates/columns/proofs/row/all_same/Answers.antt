@@ -1,7 +1,4 @@
-use borrow.Author.Rules.{rules}
-use Prim.Native.Nat.{◌-◌}
-use lib.ListN.{length}
-use Rattle.columns.proofs.laws.Row.{Same, same_end, same_more, same_other, same_start}
+use Rattle.columns.proofs.laws.Row.{same_end, same_more, same_other, same_start}
 use Rattle.columns.proofs.row.all_same.Goals as goal
 
 pub loop-i-init : goal.loop-i-init

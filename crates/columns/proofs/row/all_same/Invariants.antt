@@ -1,7 +1,6 @@
-use borrow.Author.Rules.{rules}
 use Prim.Native.Nat.{◌-◌}
 use lib.ListN.{length}
-use Rattle.columns.proofs.laws.Row.{Same, same_end, same_more, same_other, same_start}
+use Rattle.columns.proofs.laws.Row.{Same}
 use Rattle.columns.proofs.row.all_same.Given as goal
 
 abbrev pub invariant-loop-i : goal.invariant-loop-i

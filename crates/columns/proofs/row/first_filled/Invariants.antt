@@ -1,9 +1,6 @@
-use borrow.Author.Rules.{rules}
-use native.Mathlib.Omega.{arith}
 use Prim.Native.Nat.{◌≤◌, ◌-◌, ◌+◌}
-use borrow.Author.Tests.{not-true, not-false}
 use Rattle.columns.specs.Table.{columns_of}
-use Rattle.columns.proofs.laws.Cut.{Looking, looking_start, looking_end, looking_numbers, looking_texts, looking_low, looking_filled, looking_width, looking_more}
+use Rattle.columns.proofs.laws.Cut.{Looking}
 use Rattle.columns.proofs.row.first_filled.Given as goal
 
 abbrev pub invariant-loop-i : goal.invariant-loop-i

@@ -1,9 +1,6 @@
-use borrow.Author.Rules.{rules}
-use native.Mathlib.Omega.{arith}
 use Prim.Native.Nat.{◌≤◌, ◌-◌, ◌+◌}
-use borrow.Author.Tests.{not-true, not-false}
 use Rattle.columns.specs.Table.{columns_of}
-use Rattle.columns.proofs.laws.Row.{Testing, testing_start, testing_fits, testing_other, testing_more, testing_end}
+use Rattle.columns.proofs.laws.Row.{Testing}
 use Rattle.columns.proofs.row.is_whole.Given as goal
 
 abbrev pub invariant-loop-i : goal.invariant-loop-i

@@ -1,11 +1,9 @@
-use borrow.Author.Rules.{rules}
 use native.Mathlib.Omega.{arith}
 use mathlib.Core.Path.{refl, sym, ap, ◌∙◌}
-use Prim.Native.Nat.{ℕ, ◌+◌}
+use Prim.Native.Nat.{◌+◌}
 use lib.ListN.{length}
 use borrow.Author.Tests.{not-true, not-false}
 use Rattle.columns.specs.Answer.{refusal, bad_form, too_short}
-use Rattle.columns.specs.Column.{all_slots}
 use Rattle.columns.specs.Cut.{field_dropped}
 use Rattle.columns.specs.Table.{columns_of, slots_of}
 use Rattle.columns.proofs.laws.Answers.{wrote_as, wrote_refused}

@@ -1,10 +1,7 @@
-use Rattle.columns.specs.Word.{word_of}
 use Rattle.columns.proofs.laws.Word.{word_more, word_none, word_room, word_low}
-use Prim.Native.Nat.{◌^◌, ◌≤◌, ◌<◌, ◌-◌}
 use borrow.Author.Rules.{rules}
 use native.Mathlib.Omega.{arith}
-use mathlib.Core.Path.{◌≡◌, refl, sym, ◌∙◌}
-use lib.ListN.{length, drop}
+use mathlib.Core.Path.{refl, sym, ◌∙◌}
 use Rattle.columns.proofs.word.read_word.Goals as goal
 
 pub loop-i-init : goal.loop-i-init

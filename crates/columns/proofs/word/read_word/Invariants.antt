@@ -1,9 +1,6 @@
 use Rattle.columns.specs.Word.{word_of}
-use Rattle.columns.proofs.laws.Word.{word_more, word_none, word_room, word_low}
 use Prim.Native.Nat.{◌^◌, ◌≤◌, ◌<◌, ◌-◌}
-use borrow.Author.Rules.{rules}
-use native.Mathlib.Omega.{arith}
-use mathlib.Core.Path.{◌≡◌, refl, sym, ◌∙◌}
+use mathlib.Core.Path.{◌≡◌}
 use lib.ListN.{length, drop}
 use Rattle.columns.proofs.word.read_word.Given as goal
 

@@ -1,11 +1,8 @@
-use Rattle.columns.specs.Word.{word_bytes}
 use Rattle.columns.proofs.laws.Word.{word_start, word_turn, word_end}
-use lib.ListN.{length-set, length, drop}
+use lib.ListN.{length-set}
 use borrow.Author.Rules.{rules}
 use native.Mathlib.Omega.{arith}
-use mathlib.Core.Path.{◌≡◌, sym, ◌∙◌}
-use Prim.Native.Nat.{◌≤◌}
-use mathlib.Core.List.{◌++◌}
+use mathlib.Core.Path.{sym, ◌∙◌}
 use Rattle.columns.proofs.word.write_word.Goals as goal
 
 pub loop-i-init : goal.loop-i-init

@@ -1,9 +1,6 @@
 use Rattle.columns.specs.Word.{word_bytes}
-use Rattle.columns.proofs.laws.Word.{word_start, word_turn, word_end}
-use lib.ListN.{length-set, length, drop}
-use borrow.Author.Rules.{rules}
-use native.Mathlib.Omega.{arith}
-use mathlib.Core.Path.{◌≡◌, sym, ◌∙◌}
+use lib.ListN.{length, drop}
+use mathlib.Core.Path.{◌≡◌}
 use Prim.Native.Nat.{◌≤◌}
 use mathlib.Core.List.{◌++◌}
 use Rattle.columns.proofs.word.write_word.Given as goal

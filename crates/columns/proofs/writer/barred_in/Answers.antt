@@ -1,4 +1,3 @@
-use borrow.Author.Rules.{rules}
 use Rattle.columns.proofs.writer.barred_in.Goals as goal
 
 pub returns-then-bars : goal.returns-then-bars

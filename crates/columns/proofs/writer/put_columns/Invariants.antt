@@ -1,13 +1,7 @@
-use borrow.Author.Rules.{rules}
-use native.Mathlib.Omega.{arith}
-use mathlib.Core.Path.{◌≡◌, sym, ap, ◌∙◌}
-use Prim.Native.Nat.{ℕ, ◌≤◌, ◌-◌, ◌+◌}
+use Prim.Native.Nat.{◌≤◌, ◌-◌, ◌+◌}
 use lib.ListN.{length}
 use Rattle.columns.specs.Table.{columns_of, slots_of}
-use Rattle.columns.proofs.laws.Table.{sizes, slots_length, table_low, table_k, table_t}
-use Rattle.columns.proofs.laws.Writer.{Going, going_start, going_row, going_last, going_end, out_size, turn_fits, turn_ready, turn_refused, turn_done, turn_printed}
-use Rattle.columns.specs.declared.column.Column.{Column}
-use borrow.Rule.Slice.PartMut.{same_len_mid}
+use Rattle.columns.proofs.laws.Writer.{Going}
 use Rattle.columns.proofs.writer.put_columns.Given as goal
 
 abbrev pub invariant-loop-i : goal.invariant-loop-i

@@ -1,4 +1,3 @@
-use borrow.Author.Rules.{rules}
 use Rattle.columns.proofs.laws.Answers.{wrote_refused, wrote_whole}
 use Rattle.columns.proofs.laws.Puts.{text_barred, text_clear}
 use Rattle.columns.specs.Answer.{barred_byte, ok}

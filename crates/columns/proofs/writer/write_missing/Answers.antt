@@ -1,4 +1,3 @@
-use borrow.Author.Rules.{rules}
 use Prim.Native.Nat.{◌+◌}
 use lib.ListN.{replicate, length, length-replicate}
 use Rattle.columns.proofs.laws.Answers.{wrote_refused, wrote_done}

@@ -1,8 +1,5 @@
-use mathlib.Core.Path.{◌≡◌, ◌∙◌}
+use mathlib.Core.Path.{◌≡◌}
 use Prim.Native.Nat.{◌^◌, ◌-◌, ◌≤◌}
-use native.Mathlib.Omega.{arith}
-use borrow.Author.Rules.{rules}
-use Rattle.columns.proofs.laws.Written.{power_more, power_le}
 use Rattle.columns.proofs.written.power.Given as goal
 
 abbrev pub invariant-loop-i : goal.invariant-loop-i

@@ -1,11 +1,8 @@
-use mathlib.Core.Path.{◌≡◌, sym, ◌∙◌}
+use mathlib.Core.Path.{◌≡◌}
 use mathlib.Core.List.{◌++◌}
 use Prim.Native.Nat.{◌≤◌}
-use native.Mathlib.Omega.{arith}
-use lib.ListN.{length, drop, length-set}
-use borrow.Author.Rules.{rules}
+use lib.ListN.{length, drop}
 use Rattle.columns.specs.Number.{digits_of}
-use Rattle.columns.proofs.laws.Written.{write_start, write_turn, write_end}
 use Rattle.columns.proofs.written.write_digits.Given as goal
 
 abbrev pub invariant-loop-i : goal.invariant-loop-i

@@ -1,4 +1,3 @@
-use borrow.Author.Rules.{rules}
 use Rattle.columns.proofs.written.Pen.byte.Goals as goal
 
 pub returns-then-self : goal.returns-then-self
