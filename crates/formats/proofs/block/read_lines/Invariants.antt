@@ -1,0 +1,18 @@
+use Rattle.formats.specs.Format.{format_of, header_of}
+use Rattle.formats.specs.Row.{read_row}
+use Rattle.formats.proofs.laws.Block.{reading_refused, reading_closing, reading_next, Reading, reading_start, reading_end}
+use Rattle.formats.proofs.laws.BlockReader.{FoundAt, found_at, end_at, starts_in, ends_in, next_after}
+use native.Mathlib.Omega.{arith}
+use mathlib.Core.Path.{sym, ◌∙◌}
+use Prim.Native.Nat.{◌-◌}
+use lib.ListN.{length}
+use borrow.Author.Rules.{rules}
+use Rattle.formats.proofs.block.read_lines.Given as goal
+
+abbrev pub invariant-loop-at : goal.invariant-loop-at
+invariant-loop-at l =
+    Reading (header_of l.kind) (read_row (format_of l.kind).columns) l.block l.from l.at l.line l.rows l.comments
+
+abbrev pub decreases-loop-at : goal.decreases-loop-at
+decreases-loop-at l =
+    length l.block - l.at

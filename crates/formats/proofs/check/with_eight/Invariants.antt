@@ -1,0 +1,16 @@
+use borrow.Author.Rules.{rules}
+use native.Mathlib.Omega.{arith}
+use mathlib.Core.Path.{◌≡◌, sym, ◌∙◌}
+use Prim.Native.Nat.{◌+◌, ◌-◌, ◌*◌, ◌/◌, ◌%◌, ◌≤◌, ◌<◌}
+use lib.Bits.{and_mask, mask_lt}
+use lib.ListN.{drop}
+use Rattle.formats.proofs.laws.CheckEight.{weigh, weigh_more, weigh_none, weigh_most, ones, ones_below, eight_at_once}
+use Rattle.formats.proofs.check.with_eight.Given as goal
+
+abbrev pub invariant-loop-k : goal.invariant-loop-k
+invariant-loop-k l =
+    (l.k ≤ 8) × (l.ahead ≤ 130050) × (l.ahead ≡ weigh (drop l.k l.part))
+
+abbrev pub decreases-loop-k : goal.decreases-loop-k
+decreases-loop-k l =
+    l.k
