@@ -1,7 +1,6 @@
 use Rattle.columns.specs.declared.Outcome.{Outcome}
 use Rattle.formats.specs.BlockSteps.{counted}
 use mathlib.Core.Path.{sym, ap}
-use borrow.Author.Rules.{rules}
 use Rattle.formats.proofs.block.count.Goals as goal
 
 pub returns-in-Refused : goal.returns-in-Refused

@@ -1,4 +1,3 @@
-use borrow.Author.Rules.{rules}
 use mathlib.Core.Path.{◌∙◌}
 use Rattle.formats.specs.Format.{header_of}
 use Rattle.formats.proofs.laws.BlockLine.{header_same}

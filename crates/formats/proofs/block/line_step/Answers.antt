@@ -3,7 +3,6 @@ use Rattle.formats.specs.BlockSteps.{counted}
 use Rattle.formats.proofs.laws.BlockLine.{kind_closing, kind_comment, kind_row}
 use mathlib.Core.Path.{sym, ap, ◌∙◌}
 use Prim.Native.Nat.{◌+◌}
-use borrow.Author.Rules.{rules}
 use Rattle.formats.proofs.block.line_step.Goals as goal
 
 pub returns-then-trimmed-eq0 : goal.returns-then-trimmed-eq0

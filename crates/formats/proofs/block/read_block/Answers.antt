@@ -1,7 +1,6 @@
 use Rattle.formats.proofs.laws.Block.{block_long, block_none, first_other, first_lines}
-use Rattle.formats.proofs.laws.BlockReader.{FoundAt, found_at, end_at, starts_in, ends_in, next_after}
+use Rattle.formats.proofs.laws.BlockReader.{found_at, end_at, starts_in, ends_in, next_after}
 use mathlib.Core.Path.{sym, ◌∙◌}
-use borrow.Author.Rules.{rules}
 use Rattle.formats.proofs.block.read_block.Goals as goal
 
 pub returns-then-block-gt65536 : goal.returns-then-block-gt65536

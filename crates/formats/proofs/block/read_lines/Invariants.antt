@@ -1,12 +1,8 @@
 use Rattle.formats.specs.Format.{format_of, header_of}
 use Rattle.formats.specs.Row.{read_row}
-use Rattle.formats.proofs.laws.Block.{reading_refused, reading_closing, reading_next, Reading, reading_start, reading_end}
-use Rattle.formats.proofs.laws.BlockReader.{FoundAt, found_at, end_at, starts_in, ends_in, next_after}
-use native.Mathlib.Omega.{arith}
-use mathlib.Core.Path.{sym, ◌∙◌}
+use Rattle.formats.proofs.laws.Block.{Reading}
 use Prim.Native.Nat.{◌-◌}
 use lib.ListN.{length}
-use borrow.Author.Rules.{rules}
 use Rattle.formats.proofs.block.read_lines.Given as goal
 
 abbrev pub invariant-loop-at : goal.invariant-loop-at

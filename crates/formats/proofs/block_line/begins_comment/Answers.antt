@@ -1,7 +1,6 @@
 use mathlib.Core.Path.{sym}
 use borrow.Author.Tests.{eq-eqb, ne_eqb}
 use Rattle.formats.proofs.laws.BlockLine.{begins_short}
-use borrow.Author.Rules.{rules}
 use Rattle.formats.proofs.block_line.begins_comment.Goals as goal
 
 pub returns-then-line-lt2 : goal.returns-then-line-lt2

@@ -4,7 +4,6 @@ use Rattle.columns.specs.Answer.{barred_byte}
 use Rattle.columns.proofs.laws.Answers.{differs_not, differs_is}
 use Rattle.formats.specs.Block.{read_comment}
 use Rattle.columns.specs.declared.Outcome.TheVariants as O
-use borrow.Author.Rules.{rules}
 use Rattle.formats.proofs.block_line.judge_comment.Goals as goal
 
 pub returns-then-line-gt1024 : goal.returns-then-line-gt1024

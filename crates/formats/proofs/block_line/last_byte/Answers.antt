@@ -4,7 +4,6 @@ use Prim.Native.Nat.{ℕ}
 use lib.ListN.{take}
 use Rattle.formats.specs.Block.{last_byte}
 use Rattle.formats.proofs.laws.BlockLine.{last_of}
-use borrow.Author.Rules.{rules}
 use Rattle.formats.proofs.block_line.last_byte.Goals as goal
 
 pub returns-then-n-eq0 : goal.returns-then-n-eq0

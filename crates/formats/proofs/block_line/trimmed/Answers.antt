@@ -1,7 +1,6 @@
 use native.Mathlib.Omega.{arith}
-use mathlib.Core.Path.{◌≡◌, sym, ap, ◌∙◌}
-use Prim.Native.Nat.{◌≤◌}
-use lib.ListN.{length, take}
+use mathlib.Core.Path.{sym, ap, ◌∙◌}
+use lib.ListN.{length}
 use Rattle.formats.specs.Block.{trim_end}
 use Rattle.formats.proofs.laws.BlockLine.{trim_blank, trim_other, trim_none}
 use lib.Seq.{take_all}

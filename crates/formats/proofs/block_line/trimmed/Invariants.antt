@@ -1,11 +1,7 @@
-use native.Mathlib.Omega.{arith}
-use mathlib.Core.Path.{◌≡◌, sym, ap, ◌∙◌}
+use mathlib.Core.Path.{◌≡◌}
 use Prim.Native.Nat.{◌≤◌}
 use lib.ListN.{length, take}
 use Rattle.formats.specs.Block.{trim_end}
-use Rattle.formats.proofs.laws.BlockLine.{trim_blank, trim_other, trim_none}
-use lib.Seq.{take_all}
-use borrow.Author.Rules.{rules}
 use Rattle.formats.proofs.block_line.trimmed.Given as goal
 
 abbrev pub invariant-loop-i : goal.invariant-loop-i

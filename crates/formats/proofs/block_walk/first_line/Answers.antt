@@ -1,8 +1,7 @@
-use borrow.Author.Rules.{rules}
 use mathlib.Core.Path.{sym, ◌∙◌}
 use borrow.Author.Tests.{lt-ltb, le-ltb, le-leb}
 use Rattle.formats.specs.BlockWalk.{first_line}
-use Rattle.formats.proofs.laws.BlockReader.{FoundAt, end_at, ends_in, found_at, starts_in}
+use Rattle.formats.proofs.laws.BlockReader.{end_at, ends_in, found_at, starts_in}
 use Rattle.formats.proofs.laws.BlockWalk.{first_header, first_other}
 use Rattle.formats.proofs.block_walk.first_line.Goals as goal
 

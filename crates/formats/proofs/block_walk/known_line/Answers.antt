@@ -1,4 +1,3 @@
-use borrow.Author.Rules.{rules}
 use mathlib.Core.Path.{sym, ◌∙◌}
 use Rattle.formats.proofs.laws.BlockLine.{kind_closing, kind_comment, kind_row}
 use Rattle.formats.proofs.block_walk.known_line.Goals as goal

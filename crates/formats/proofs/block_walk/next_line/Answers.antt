@@ -1,4 +1,3 @@
-use borrow.Author.Rules.{rules}
 use borrow.Author.Tests.{le-ltb, lt-ltb}
 use Rattle.formats.specs.BlockWalk.{next_line}
 use Rattle.formats.proofs.block_walk.next_line.Goals as goal

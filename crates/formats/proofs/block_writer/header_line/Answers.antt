@@ -1,4 +1,3 @@
-use borrow.Author.Rules.{rules}
 use Rattle.formats.specs.Format.{header_of}
 use Rattle.formats.proofs.laws.Format.{header_fine}
 use Rattle.formats.proofs.laws.BlockWriter.{header_refused, header_done}

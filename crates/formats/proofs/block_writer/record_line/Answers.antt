@@ -2,7 +2,6 @@ use Rattle.formats.proofs.laws.BlockWriter.{newline_in, line_refused, line_in_le
 use native.Mathlib.Omega.{arith}
 use Rattle.formats.specs.Format.{format_of}
 use Rattle.formats.specs.Row.{write_row_from}
-use borrow.Author.Rules.{rules}
 use Rattle.formats.proofs.block_writer.record_line.Goals as goal
 
 pub bounds-part-n : goal.bounds-part-n

@@ -3,7 +3,6 @@ use Rattle.formats.proofs.laws.BlockWriter.{header_past, call_fits, call_replied
 use Rattle.formats.specs.Format.{header_of}
 use Rattle.formats.proofs.laws.Format.{header_fine}
 use native.Mathlib.Omega.{arith}
-use borrow.Author.Rules.{rules}
 use Rattle.formats.proofs.block_writer.write_header.Goals as goal
 
 pub returns-then-out-at : goal.returns-then-out-at

@@ -4,7 +4,6 @@ use Rattle.formats.specs.BlockWriting.{record_call}
 use Rattle.formats.proofs.laws.BlockWriter.{record_past, call_fits, call_replied}
 use Rattle.formats.proofs.laws.Format.{format_fits}
 use native.Mathlib.Omega.{arith}
-use borrow.Author.Rules.{rules}
 use Rattle.formats.proofs.block_writer.write_record.Goals as goal
 
 pub returns-then-out-at : goal.returns-then-out-at

@@ -1,4 +1,3 @@
-use borrow.Author.Rules.{rules}
 use Rattle.formats.specs.Cards.{cards}
 use Rattle.formats.proofs.laws.Cards.{card_ranks, card_afters, cards_are}
 use Rattle.formats.proofs.cards.first_card.Goals as goal

@@ -1,4 +1,3 @@
-use borrow.Author.Rules.{rules}
 use Rattle.formats.specs.Lettered.{kinds_at}
 use Rattle.formats.proofs.laws.Cards.{card_ranks, card_afters}
 use Rattle.formats.proofs.cards.read_card.Goals as goal

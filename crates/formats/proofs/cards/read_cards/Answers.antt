@@ -1,4 +1,3 @@
-use borrow.Author.Rules.{rules}
 use Rattle.formats.specs.Cards.{cards}
 use Rattle.formats.proofs.laws.Cards.{cards_are}
 use Rattle.formats.proofs.cards.read_cards.Goals as goal

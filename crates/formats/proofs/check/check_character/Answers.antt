@@ -1,10 +1,9 @@
 use borrow.Author.Rules.{rules}
 use native.Mathlib.Omega.{arith}
 use mathlib.Core.Path.{◌≡◌, refl, ◌∙◌}
-use Prim.Native.Nat.{◌+◌, ◌-◌, ◌≤◌}
-use lib.ListN.{length, drop, length-drop}
+use Prim.Native.Nat.{◌+◌, ◌-◌}
+use lib.ListN.{drop, length-drop}
 use lib.Seq.{length-take-le}
-use Rattle.formats.specs.Check.{check_sum}
 use Rattle.formats.proofs.laws.Check.{sum_part}
 use Rattle.formats.proofs.check.check_character.Goals as goal
 

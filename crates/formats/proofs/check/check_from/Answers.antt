@@ -1,4 +1,3 @@
-use borrow.Author.Rules.{rules}
 use mathlib.Core.Path.{◌∙◌}
 use Rattle.formats.proofs.laws.Check.{character_is}
 use Rattle.formats.proofs.check.check_from.Goals as goal

@@ -3,7 +3,6 @@ use native.Mathlib.Omega.{arith}
 use mathlib.Core.Path.{◌≡◌, sym, ◌∙◌}
 use Prim.Native.Nat.{◌+◌, ◌-◌, ◌*◌, ◌/◌, ◌%◌, ◌≤◌, ◌<◌}
 use lib.Bits.{and_mask, mask_lt}
-use lib.ListN.{drop}
 use Rattle.formats.proofs.laws.CheckEight.{weigh, weigh_more, weigh_none, weigh_most, ones, ones_below, eight_at_once}
 use Rattle.formats.proofs.check.with_eight.Goals as goal
 

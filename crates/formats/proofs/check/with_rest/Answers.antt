@@ -1,8 +1,5 @@
 use borrow.Author.Rules.{rules}
-use mathlib.Core.Path.{◌≡◌, refl, sym, ◌∙◌}
-use Prim.Native.Nat.{◌≤◌, ◌-◌}
-use lib.ListN.{length, drop}
-use Rattle.formats.specs.Check.{check_sum}
+use mathlib.Core.Path.{refl, sym, ◌∙◌}
 use Rattle.formats.proofs.laws.Check.{sum_more, sum_none}
 use Rattle.formats.proofs.check.with_rest.Goals as goal
 

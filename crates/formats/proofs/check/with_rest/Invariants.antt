@@ -1,9 +1,7 @@
-use borrow.Author.Rules.{rules}
-use mathlib.Core.Path.{◌≡◌, refl, sym, ◌∙◌}
+use mathlib.Core.Path.{◌≡◌}
 use Prim.Native.Nat.{◌≤◌, ◌-◌}
 use lib.ListN.{length, drop}
 use Rattle.formats.specs.Check.{check_sum}
-use Rattle.formats.proofs.laws.Check.{sum_more, sum_none}
 use Rattle.formats.proofs.check.with_rest.Given as goal
 
 abbrev pub invariant-loop-i : goal.invariant-loop-i

@@ -1,4 +1,3 @@
-use borrow.Author.Rules.{rules}
 use Rattle.formats.proofs.laws.Check.{sum_three}
 use Rattle.formats.proofs.check.with_three.Goals as goal
 

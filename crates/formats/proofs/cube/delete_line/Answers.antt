@@ -1,7 +1,6 @@
 use mathlib.Core.Path.{ap, ◌∙◌}
 use Rattle.columns.specs.Table.{placed}
 use Rattle.formats.proofs.laws.CubeWriting.{delete_laid}
-use borrow.Author.Rules.{rules}
 use Rattle.formats.proofs.cube.delete_line.Goals as goal
 
 pub returns : goal.returns

@@ -1,5 +1,4 @@
 use borrow.Author.Tests.{eq-eqb, ne_eqb}
-use borrow.Author.Rules.{rules}
 use Rattle.formats.proofs.cube.is_type.Goals as goal
 
 pub returns-then-line-a : goal.returns-then-line-a

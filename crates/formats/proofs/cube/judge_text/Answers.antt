@@ -3,7 +3,6 @@ use borrow.Author.Tests.{le-ltb, lt-ltb}
 use Rattle.columns.specs.Answer.{barred_byte}
 use Rattle.columns.proofs.laws.Answers.{differs_not, differs_is}
 use Rattle.columns.specs.declared.Outcome.TheVariants as O
-use borrow.Author.Rules.{rules}
 use Rattle.formats.proofs.cube.judge_text.Goals as goal
 
 pub returns-then-len-low : goal.returns-then-len-low

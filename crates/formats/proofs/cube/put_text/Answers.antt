@@ -5,7 +5,6 @@ use Rattle.columns.proofs.laws.Answers.{wrote_whole, differs_not, differs_is}
 use Rattle.formats.specs.Cube.{put_text}
 use Rattle.formats.proofs.laws.CubeWriting.{put_text_lem}
 use Rattle.columns.specs.declared.Outcome.TheVariants as O
-use borrow.Author.Rules.{rules}
 use Rattle.formats.proofs.cube.put_text.Goals as goal
 
 pub returns-then-len-low : goal.returns-then-len-low

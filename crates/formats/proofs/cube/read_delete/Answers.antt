@@ -3,7 +3,6 @@ use native.Mathlib.Omega.{arith}
 use lib.ListN.{length-drop}
 use Rattle.formats.specs.Cube.{delete_parts, read_delete, line_read}
 use Rattle.formats.proofs.laws.Cube.{text_begun, text_refused}
-use borrow.Author.Rules.{rules}
 use Rattle.formats.proofs.cube.read_delete.Goals as goal
 
 pub overflow_sub-result : goal.overflow_sub-result

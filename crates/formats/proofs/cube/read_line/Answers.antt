@@ -2,7 +2,6 @@ use mathlib.Core.Path.{refl, sym, ◌∙◌}
 use borrow.Author.Tests.{le-ltb, lt-ltb}
 use Rattle.formats.specs.Cube.{read_line}
 use Rattle.formats.proofs.laws.Cube.{untouched, no_part}
-use borrow.Author.Rules.{rules}
 use Rattle.formats.proofs.cube.read_line.Goals as goal
 
 pub returns-then-line-lt2 : goal.returns-then-line-lt2

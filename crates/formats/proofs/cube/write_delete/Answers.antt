@@ -8,7 +8,6 @@ use Rattle.columns.specs.Answer.{wrong_length}
 use Rattle.columns.proofs.laws.Answers.{wrote_refused, wrote_as}
 use Rattle.formats.specs.Cube.{put_text, write_message}
 use Rattle.formats.proofs.laws.CubeWriting.{put_long, delete_taken}
-use borrow.Author.Rules.{rules}
 use Rattle.formats.proofs.cube.write_delete.Goals as goal
 
 pub returns-then-len-gt67 : goal.returns-then-len-gt67

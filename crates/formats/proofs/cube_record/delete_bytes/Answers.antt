@@ -1,5 +1,4 @@
 use Rattle.formats.proofs.laws.CubeRecord.{delete_laid}
-use borrow.Author.Rules.{rules}
 use Rattle.formats.proofs.cube_record.delete_bytes.Goals as goal
 
 pub returns : goal.returns

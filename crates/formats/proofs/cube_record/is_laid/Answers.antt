@@ -5,7 +5,6 @@ use lib.ListN.{length}
 use Rattle.columns.specs.Bytes.{same_bytes}
 use Rattle.columns.specs.Table.{placed}
 use Rattle.formats.proofs.laws.CubeRecord.{text_filled}
-use borrow.Author.Rules.{rules}
 use Rattle.formats.proofs.cube_record.is_laid.Goals as goal
 
 pub returns : goal.returns

@@ -2,7 +2,6 @@ use mathlib.Core.Path.{ap, ◌∙◌}
 use mathlib.Core.List.{List}
 use Prim.Native.Nat.{ℕ}
 use Rattle.columns.specs.Bytes.{same_bytes}
-use borrow.Author.Rules.{rules}
 use Rattle.formats.proofs.cube_record.is_packed.Goals as goal
 
 pub returns : goal.returns

@@ -1,7 +1,6 @@
 use mathlib.Core.Path.{sym, ◌∙◌}
 use Rattle.columns.specs.Answer.{too_short}
 use Rattle.formats.proofs.laws.CubeRecord.{replied_refused, into_short, read_refused, read_event_lem, link_says, read_link_lem, delete_says, read_delete_lem}
-use borrow.Author.Rules.{rules}
 use Rattle.formats.proofs.cube_record.read_into.Goals as goal
 
 pub returns-then-out-lt-RECORD : goal.returns-then-out-lt-RECORD

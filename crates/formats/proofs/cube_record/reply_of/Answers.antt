@@ -1,4 +1,3 @@
-use borrow.Author.Rules.{rules}
 use Rattle.formats.proofs.cube_record.reply_of.Goals as goal
 
 pub returns-in-Done : goal.returns-in-Done

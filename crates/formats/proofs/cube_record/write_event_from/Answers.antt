@@ -1,5 +1,4 @@
 use Rattle.formats.proofs.laws.CubeRecord.{no_event, event_reply, replied_is}
-use borrow.Author.Rules.{rules}
 use Rattle.formats.proofs.cube_record.write_event_from.Goals as goal
 
 pub returns-then-is_packed : goal.returns-then-is_packed

@@ -1,6 +1,5 @@
 use Rattle.formats.proofs.laws.CubeRecord.{replied_is}
 use Rattle.formats.proofs.laws.LinkRecord.{link_past, no_link, link_reply}
-use borrow.Author.Rules.{rules}
 use Rattle.formats.proofs.cube_record.write_link_from.Goals as goal
 
 pub returns-then-end-gt-RECORD : goal.returns-then-end-gt-RECORD

@@ -1,4 +1,3 @@
-use borrow.Author.Rules.{rules}
 use mathlib.Core.Path.{refl}
 use Rattle.formats.specs.Format.{phase_format, arrival_format, card_i, card_l, card_e, card_m, card_p, card_a, card_r, place_at}
 use Rattle.formats.proofs.laws.Format.{formed, phase_place, place_is, no_formats, not_this}

@@ -1,4 +1,3 @@
-use borrow.Author.Rules.{rules}
 use Rattle.formats.proofs.laws.Format.{header_put, phase_header_lem, arrival_header_lem}
 use Rattle.formats.specs.Words.{bytes_of}
 use Rattle.formats.specs.Header.{phase_header, arrival_header, spaced_from}

@@ -1,6 +1,5 @@
 use mathlib.Core.Path.{sym, ◌∙◌}
 use Rattle.formats.proofs.laws.Judge.{judged_link, judged_no_link}
-use borrow.Author.Rules.{rules}
 use Rattle.formats.proofs.judge.is_link.Goals as goal
 
 pub returns-in-There : goal.returns-in-There

@@ -4,12 +4,11 @@ use mathlib.Core.Path.{◌≡◌, refl, ap, ◌∙◌}
 use borrow.Author.Tests.{not-true, not-false}
 use mathlib.Core.Bool.{false≢true}
 use mathlib.Core.List.{[]}
-use Prim.Native.Nat.{◌≤◌, ◌-◌, ◌+◌, ◌*◌}
-use lib.ListN.{length, drop}
+use Prim.Native.Nat.{◌-◌, ◌+◌, ◌*◌}
+use lib.ListN.{length}
 use Rattle.columns.specs.Table.{columns_of}
 use Rattle.columns.specs.declared.column.Column.{Column}
-use Rattle.columns.proofs.laws.Judge.{Left, left_start, left_row, left_last, left_end, left_good, left_simple, left_room, left_fits, left_refused, left_next, simple_width}
-use Rattle.formats.specs.Check.{check_sum}
+use Rattle.columns.proofs.laws.Judge.{left_start, left_row, left_last, left_end, left_good, left_simple, left_room, left_fits, left_refused, left_next, simple_width}
 use Rattle.formats.proofs.judge.judge_sealed.Goals as goal
 
 pub loop-i-init : goal.loop-i-init

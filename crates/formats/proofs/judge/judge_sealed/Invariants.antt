@@ -1,14 +1,9 @@
-use borrow.Author.Rules.{rules}
-use native.Mathlib.Omega.{arith}
-use mathlib.Core.Path.{◌≡◌, refl, ap, ◌∙◌}
-use borrow.Author.Tests.{not-true, not-false}
-use mathlib.Core.Bool.{false≢true}
+use mathlib.Core.Path.{◌≡◌}
 use mathlib.Core.List.{[]}
-use Prim.Native.Nat.{◌≤◌, ◌-◌, ◌+◌, ◌*◌}
+use Prim.Native.Nat.{◌≤◌, ◌-◌, ◌*◌}
 use lib.ListN.{length, drop}
 use Rattle.columns.specs.Table.{columns_of}
-use Rattle.columns.specs.declared.column.Column.{Column}
-use Rattle.columns.proofs.laws.Judge.{Left, left_start, left_row, left_last, left_end, left_good, left_simple, left_room, left_fits, left_refused, left_next, simple_width}
+use Rattle.columns.proofs.laws.Judge.{Left}
 use Rattle.formats.specs.Check.{check_sum}
 use Rattle.formats.proofs.judge.judge_sealed.Given as goal
 

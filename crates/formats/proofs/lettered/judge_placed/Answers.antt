@@ -1,4 +1,3 @@
-use borrow.Author.Rules.{rules}
 use mathlib.Core.Path.{◌∙◌}
 use Rattle.formats.proofs.laws.Lettered.{placed_yes, placed_long, placed_barred, placed_not}
 use Rattle.formats.proofs.lettered.judge_placed.Goals as goal

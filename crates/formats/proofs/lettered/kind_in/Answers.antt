@@ -1,4 +1,3 @@
-use borrow.Author.Rules.{rules}
 use Rattle.formats.proofs.laws.Lettered.{kind_low, kind_high, kind_within}
 use Rattle.formats.proofs.lettered.kind_in.Goals as goal
 

@@ -1,4 +1,3 @@
-use borrow.Author.Rules.{rules}
 use Rattle.formats.proofs.laws.Lettered.{lead_none, lead_other, lead_kind}
 use Rattle.formats.proofs.lettered.lead_of.Goals as goal
 

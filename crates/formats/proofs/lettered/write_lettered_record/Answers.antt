@@ -1,4 +1,3 @@
-use borrow.Author.Rules.{rules}
 use Rattle.formats.proofs.laws.Lettered.{recorded_as}
 use Rattle.formats.proofs.lettered.write_lettered_record.Goals as goal
 

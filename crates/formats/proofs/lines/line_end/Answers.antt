@@ -1,8 +1,7 @@
 use borrow.Author.Rules.{rules}
 use native.Mathlib.Omega.{arith}
 use mathlib.Core.Path.{◌≡◌, sym, ap, ◌∙◌}
-use Prim.Native.Nat.{ℕ, ◌≤◌, ◌<◌, ◌-◌, ◌+◌}
-use lib.ListN.{length}
+use Prim.Native.Nat.{ℕ, ◌<◌, ◌-◌, ◌+◌}
 use borrow.Author.Tests.{not-true, not-false}
 use Rattle.formats.specs.Lines.{line_end}
 use Rattle.formats.proofs.laws.Lines.{line_end_to, part_in, part_past}

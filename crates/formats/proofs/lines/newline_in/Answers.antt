@@ -1,7 +1,7 @@
 use borrow.Author.Rules.{rules}
 use native.Mathlib.Omega.{arith}
 use mathlib.Core.Path.{◌≡◌, sym, ap, ◌∙◌}
-use Prim.Native.Nat.{◌≤◌, ◌-◌, ◌+◌}
+use Prim.Native.Nat.{◌-◌, ◌+◌}
 use Rattle.formats.proofs.laws.Lines.{end_stop, end_other, end_last}
 use Rattle.formats.specs.Lines.{line_end}
 use Rattle.formats.proofs.lines.newline_in.Goals as goal

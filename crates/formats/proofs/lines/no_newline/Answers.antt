@@ -1,9 +1,8 @@
 use borrow.Author.Rules.{rules}
 use native.Mathlib.Omega.{arith}
 use mathlib.Core.Path.{◌≡◌, refl, sym, ◌∙◌}
-use Prim.Native.Nat.{◌≤◌, ◌-◌}
 use mathlib.Core.Bool.{false≢true}
-use Rattle.formats.proofs.laws.Lines.{Seen, seen_next, end_last}
+use Rattle.formats.proofs.laws.Lines.{seen_next, end_last}
 use Rattle.formats.proofs.lines.no_newline.Goals as goal
 
 pub loop-i-init : goal.loop-i-init

@@ -1,8 +1,5 @@
 use borrow.Author.Rules.{rules}
-use mathlib.Core.Path.{◌≡◌, refl, sym, ◌∙◌}
-use Prim.Native.Nat.{◌-◌, ◌≤◌}
-use lib.ListN.{length}
-use Rattle.formats.specs.Lines.{end_from}
+use mathlib.Core.Path.{refl, sym, ◌∙◌}
 use Rattle.formats.proofs.laws.Lines.{end_stop, end_other, end_last}
 use Rattle.formats.proofs.lines.scan_end.Goals as goal
 

@@ -1,9 +1,7 @@
-use borrow.Author.Rules.{rules}
-use mathlib.Core.Path.{◌≡◌, refl, sym, ◌∙◌}
+use mathlib.Core.Path.{◌≡◌}
 use Prim.Native.Nat.{◌-◌, ◌≤◌}
 use lib.ListN.{length}
 use Rattle.formats.specs.Lines.{end_from}
-use Rattle.formats.proofs.laws.Lines.{end_stop, end_other, end_last}
 use Rattle.formats.proofs.lines.scan_end.Given as goal
 
 abbrev pub invariant-loop-i : goal.invariant-loop-i

@@ -1,4 +1,3 @@
-use borrow.Author.Rules.{rules}
 use mathlib.Core.Path.{◌∙◌, ap}
 use Rattle.formats.specs.Link.{says_delete}
 use Rattle.formats.proofs.laws.Link.{no_address_says, no_text_says, text_part}

@@ -2,7 +2,6 @@ use mathlib.Core.Path.{sym, ◌∙◌}
 use borrow.Author.Tests.{not-true, not-false, le-leb, lt-leb}
 use Rattle.formats.specs.Link.{formed}
 use Rattle.formats.proofs.laws.Link.{begun_none, begun_is}
-use borrow.Author.Rules.{rules}
 use Rattle.formats.proofs.link.is_formed.Goals as goal
 
 pub returns-then-kind-gt16 : goal.returns-then-kind-gt16

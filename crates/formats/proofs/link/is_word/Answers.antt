@@ -2,7 +2,6 @@ use mathlib.Core.Path.{◌∙◌}
 use native.Mathlib.Omega.{arith}
 use Rattle.formats.specs.Lines.{end_from}
 use Rattle.formats.proofs.laws.Link.{word_none, word_is}
-use borrow.Author.Rules.{rules}
 use Rattle.formats.proofs.link.is_word.Goals as goal
 
 pub returns-then-s-eq0 : goal.returns-then-s-eq0

@@ -2,7 +2,6 @@ use native.Mathlib.Omega.{arith}
 use Prim.Native.Nat.{◌+◌}
 use lib.ListN.{length, length-set}
 use Rattle.formats.proofs.laws.LinkLine.{link_laid}
-use borrow.Author.Rules.{rules}
 use Rattle.formats.proofs.link.link_line.Goals as goal
 
 pub copy_at-requires-2 : goal.copy_at-requires-2

@@ -3,7 +3,6 @@ use native.Mathlib.Omega.{arith}
 use Rattle.formats.specs.Cube.{link_parts, read_link, line_read}
 use Rattle.formats.proofs.laws.Cube.{text_begun, text_refused}
 use Rattle.formats.proofs.laws.LinkLine.{parts_no_blank}
-use borrow.Author.Rules.{rules}
 use Rattle.formats.proofs.link.read_link.Goals as goal
 
 pub bounds-line-14 : goal.bounds-line-14

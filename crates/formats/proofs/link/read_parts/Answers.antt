@@ -3,7 +3,6 @@ use borrow.Author.Tests.{not-true, not-false}
 use Rattle.formats.specs.Cube.{line_read}
 use Rattle.formats.proofs.laws.LinkLine.{parts_no_address, parts_no_text, parts_malformed, parts_formed, parts_read}
 use Rattle.formats.proofs.laws.Link.{type_part, address_part, text_part}
-use borrow.Author.Rules.{rules}
 use Rattle.formats.proofs.link.read_parts.Goals as goal
 
 pub returns-then-len-end : goal.returns-then-len-end

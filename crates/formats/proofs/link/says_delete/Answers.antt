@@ -1,4 +1,3 @@
-use borrow.Author.Rules.{rules}
 use Rattle.formats.specs.Link.{says_delete}
 use Rattle.formats.proofs.link.says_delete.Goals as goal
 

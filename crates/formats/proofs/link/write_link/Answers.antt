@@ -5,7 +5,6 @@ use Rattle.columns.proofs.laws.Answers.{wrote_refused, wrote_as}
 use Rattle.formats.specs.Cube.{write_message}
 use Rattle.formats.proofs.laws.CubeWriting.{put_long}
 use Rattle.formats.proofs.laws.LinkLine.{link_size, link_taken}
-use borrow.Author.Rules.{rules}
 use Rattle.formats.proofs.link.write_link.Goals as goal
 
 pub returns-then-size-gt238 : goal.returns-then-size-gt238

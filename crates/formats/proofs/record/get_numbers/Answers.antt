@@ -1,9 +1,9 @@
 use mir.Syntax.{w64}
 use mir.ValLaws.{to_z-of_z}
 use lib.IntN.{ℤ}
-use Rattle.columns.specs.Table.{value_of, slot_of, over, flags_of, values_of}
+use Rattle.columns.specs.Table.{value_of, slot_of, flags_of, values_of}
 use Rattle.formats.specs.Record.{slots_in}
-use Prim.Native.Nat.{◌*◌, ◌≤◌, ◌-◌}
+use Prim.Native.Nat.{◌*◌}
 use lib.ListN.{length-set, length, get_or}
 use Rattle.formats.proofs.laws.Record.{flags_turn, values_more, numbers_end, numbers_length}
 use Rattle.columns.proofs.laws.Table.{flags_length, values_length, flags_none, values_none}

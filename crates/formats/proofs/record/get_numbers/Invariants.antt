@@ -1,15 +1,8 @@
-use mir.Syntax.{w64}
-use mir.ValLaws.{to_z-of_z}
-use lib.IntN.{ℤ}
-use Rattle.columns.specs.Table.{value_of, slot_of, over, flags_of, values_of}
+use Rattle.columns.specs.Table.{over, flags_of, values_of}
 use Rattle.formats.specs.Record.{slots_in}
-use Prim.Native.Nat.{◌*◌, ◌≤◌, ◌-◌}
-use lib.ListN.{length-set, length, get_or}
-use Rattle.formats.proofs.laws.Record.{flags_turn, values_more, numbers_end, numbers_length}
-use Rattle.columns.proofs.laws.Table.{flags_length, values_length, flags_none, values_none}
-use borrow.Author.Rules.{rules}
-use native.Mathlib.Omega.{arith}
-use mathlib.Core.Path.{◌≡◌, refl, ap, ◌∙◌}
+use Prim.Native.Nat.{◌≤◌, ◌-◌}
+use lib.ListN.{length}
+use mathlib.Core.Path.{◌≡◌}
 use Rattle.formats.proofs.record.get_numbers.Given as goal
 
 abbrev pub invariant-loop-i : goal.invariant-loop-i

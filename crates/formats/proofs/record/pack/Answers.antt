@@ -5,7 +5,6 @@ use Prim.Native.Nat.{◌+◌, ◌*◌}
 use lib.ListN.{length, length-set}
 use mathlib.Core.Path.{ap, ◌∙◌}
 use native.Mathlib.Omega.{arith}
-use borrow.Author.Rules.{rules}
 use Rattle.formats.proofs.record.pack.Goals as goal
 
 pub copy_at-requires : goal.copy_at-requires

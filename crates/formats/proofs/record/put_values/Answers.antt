@@ -1,13 +1,12 @@
 use mir.Syntax.{w64}
 use mir.ValLaws.{to_z-of_z}
 use lib.IntN.{pos}
-use Rattle.formats.specs.Record.{pattern_of, words_by, value_bytes}
-use Rattle.columns.specs.Table.{over}
-use Prim.Native.Nat.{◌*◌, ◌≤◌, ◌-◌}
+use Rattle.formats.specs.Record.{pattern_of, words_by}
+use Prim.Native.Nat.{◌*◌}
 use Rattle.formats.proofs.laws.Record.{values_turn, values_end}
 use borrow.Author.Rules.{rules}
-use mathlib.Core.Path.{◌≡◌, refl, ap, ◌∙◌}
-use lib.ListN.{length, get_or, take}
+use mathlib.Core.Path.{refl, ap, ◌∙◌}
+use lib.ListN.{get_or}
 use Rattle.formats.proofs.record.put_values.Goals as goal
 
 pub loop-i-init : goal.loop-i-init

@@ -1,13 +1,8 @@
-use mir.Syntax.{w64}
-use mir.ValLaws.{to_z-of_z}
-use lib.IntN.{pos}
-use Rattle.formats.specs.Record.{pattern_of, words_by, value_bytes}
+use Rattle.formats.specs.Record.{value_bytes}
 use Rattle.columns.specs.Table.{over}
-use Prim.Native.Nat.{◌*◌, ◌≤◌, ◌-◌}
-use Rattle.formats.proofs.laws.Record.{values_turn, values_end}
-use borrow.Author.Rules.{rules}
-use mathlib.Core.Path.{◌≡◌, refl, ap, ◌∙◌}
-use lib.ListN.{length, get_or, take}
+use Prim.Native.Nat.{◌≤◌, ◌-◌}
+use mathlib.Core.Path.{◌≡◌}
+use lib.ListN.{length, take}
 use Rattle.formats.proofs.record.put_values.Given as goal
 
 abbrev pub invariant-loop-i : goal.invariant-loop-i

@@ -4,7 +4,6 @@ use Rattle.formats.specs.Record.{value_bytes}
 use Prim.Native.Nat.{◌+◌, ◌*◌}
 use lib.ListN.{length}
 use native.Mathlib.Omega.{arith}
-use borrow.Author.Rules.{rules}
 use Rattle.formats.proofs.record.values_at.Goals as goal
 
 pub returns : goal.returns

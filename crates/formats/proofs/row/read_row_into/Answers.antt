@@ -1,4 +1,3 @@
-use borrow.Author.Rules.{rules}
 use Rattle.formats.proofs.laws.RowRecord.{row_into_done, row_into_refused, row_into_short, row_room}
 use Rattle.formats.proofs.row.read_row_into.Goals as goal
 

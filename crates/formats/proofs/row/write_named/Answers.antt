@@ -1,5 +1,4 @@
-use borrow.Author.Rules.{rules}
-use Rattle.formats.proofs.laws.RowRecord.{Taken, taken, taken_sizes, row_no_record, row_record}
+use Rattle.formats.proofs.laws.RowRecord.{taken, taken_sizes, row_no_record, row_record}
 use Rattle.formats.proofs.row.write_named.Goals as goal
 
 pub write_cells-requires : goal.write_cells-requires

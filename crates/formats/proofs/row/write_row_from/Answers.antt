@@ -1,4 +1,3 @@
-use borrow.Author.Rules.{rules}
 use Rattle.formats.proofs.laws.RowRecord.{row_from_named, row_from_short}
 use Rattle.formats.proofs.row.write_row_from.Goals as goal
 

@@ -1,11 +1,8 @@
 use borrow.Author.Rules.{rules}
 use native.Mathlib.Omega.{arith}
 use mathlib.Core.Path.{sym, ◌∙◌}
-use Prim.Native.Nat.{◌-◌}
-use lib.ListN.{length}
-use Rattle.formats.specs.Lettered.{kinds_at}
-use Rattle.formats.proofs.laws.BlockReader.{FoundAt, found_at, end_at, starts_in, ends_in, next_after}
-use Rattle.formats.proofs.laws.Run.{Running, running_start, running_end, counted_few, running_refused, running_next}
+use Rattle.formats.proofs.laws.BlockReader.{found_at, end_at, starts_in, ends_in, next_after}
+use Rattle.formats.proofs.laws.Run.{running_start, running_end, counted_few, running_refused, running_next}
 use Rattle.formats.proofs.run.judge_lines.Goals as goal
 
 pub loop-at-init : goal.loop-at-init

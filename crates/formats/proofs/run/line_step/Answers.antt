@@ -1,4 +1,3 @@
-use borrow.Author.Rules.{rules}
 use native.Mathlib.Omega.{arith}
 use mathlib.Core.List.{[]}
 use Rattle.formats.proofs.laws.Lettered.{led_kind, led_inside, step_refused, step_not, step_next}

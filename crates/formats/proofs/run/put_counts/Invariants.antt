@@ -1,12 +1,8 @@
-use borrow.Author.Rules.{rules}
-use native.Mathlib.Omega.{arith}
-use mathlib.Core.Path.{◌≡◌, refl, ◌∙◌}
-use Prim.Native.Nat.{ℕ, ◌*◌, ◌≤◌, ◌-◌}
+use mathlib.Core.Path.{◌≡◌}
+use Prim.Native.Nat.{ℕ, ◌≤◌, ◌-◌}
 use lib.ListN.{length, get_or, take}
-use lib.Seq.{length-take-le}
 use Rattle.columns.specs.Table.{over}
 use Rattle.formats.specs.Record.{words_by}
-use Rattle.formats.proofs.laws.Record.{words_length, words_turn, words_end}
 use Rattle.formats.proofs.run.put_counts.Given as goal
 
 abbrev pub invariant-loop-i : goal.invariant-loop-i

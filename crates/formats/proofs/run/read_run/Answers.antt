@@ -1,4 +1,3 @@
-use borrow.Author.Rules.{rules}
 use native.Mathlib.Omega.{arith}
 use Rattle.formats.proofs.laws.Run.{empty_tally, run_short, run_long, run_refused, run_read}
 use Rattle.formats.proofs.run.read_run.Goals as goal

@@ -1,4 +1,3 @@
-use borrow.Author.Rules.{rules}
 use mathlib.Core.Path.{◌∙◌}
 use Rattle.formats.proofs.laws.RunWalk.{first_long, first_there}
 use Rattle.formats.proofs.run_walk.first_told.Goals as goal

@@ -1,4 +1,3 @@
-use borrow.Author.Rules.{rules}
 use mathlib.Core.Path.{◌∙◌}
 use Rattle.formats.proofs.laws.RunWalk.{next_long, next_known, next_unknown}
 use Rattle.formats.proofs.run_walk.next_told.Goals as goal

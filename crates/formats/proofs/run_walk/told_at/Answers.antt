@@ -1,6 +1,5 @@
-use borrow.Author.Rules.{rules}
 use mathlib.Core.Path.{sym, ◌∙◌}
-use Rattle.formats.proofs.laws.BlockReader.{FoundAt, end_at, ends_in, found_at, starts_in}
+use Rattle.formats.proofs.laws.BlockReader.{end_at, ends_in, found_at, starts_in}
 use Rattle.formats.proofs.laws.RunWalk.{at_many, at_none, at_found}
 use Rattle.formats.proofs.run_walk.told_at.Goals as goal
 

@@ -1,4 +1,3 @@
-use borrow.Author.Rules.{rules}
 use mathlib.Core.Path.{refl}
 use Rattle.formats.proofs.laws.Format.{line_ready, line_wrote}
 use Rattle.formats.specs.declared.table.TheConstants.{ROWS, LETTERS}
