@@ -54,7 +54,7 @@ pub record Known (r l : List ℕ) (f : Findings) : Type 0 where
   pub held_is : f.held ≡ held_in r
   pub deletions_are : f.deletions ≡ deletions_in r
   pub in_held : Sought key (key l) (contents r).held f.in_held
-  pub in_deletions_lem : Sought deletion_key (key l) (contents r).deletions f.in_deletions ⊎ ((kind l ≡ event) × IsFound f.in_held × (f.in_deletions ≡ Missing 0))
+  pub in_deletions : Sought deletion_key (key l) (contents r).deletions f.in_deletions ⊎ ((kind l ≡ event) × IsFound f.in_held × (f.in_deletions ≡ Missing 0))
 
 -- a deletion of the line's pair can be put at its place among the deletions
 pub record Notable (r l : List ℕ) (v : ℕ) (s : Seek) : Type 0 where

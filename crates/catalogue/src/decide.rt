@@ -14,7 +14,7 @@ use columns::bytes::same;
 
 // What a line does: nothing, with an answer; the line is held, with an answer; its pair's deletion becomes a version; its held line goes
 // besides; the line is stored among the links, with an answer.
-#[derive(Drop)]
+#[derive(Clone, Copy)]
 pub enum Deed {
     Leave(u8),
     Hold(u8),
@@ -24,7 +24,7 @@ pub enum Deed {
 }
 
 // An acceptable line about a pair: an event, a delete with a version, a delete with a blank one.
-#[derive(Drop)]
+#[derive(Clone, Copy)]
 pub enum Notice {
     Event,
     Delete,
@@ -32,7 +32,7 @@ pub enum Notice {
 }
 
 // The sections of a room, and where a line's pair stands in each.
-#[derive(Drop)]
+#[derive(Clone, Copy)]
 pub struct Findings {
     pub held: Section,
     pub deletions: Section,

@@ -96,7 +96,7 @@ module _ (r : List ℕ) (o : Ordered r) where
 
     -- where the pair is in no held line, or the line is no event, the deletions were searched
     pub searched : (kind l ≡ event → IsFound f.in_held → ⊥) → Sought deletion_key (key l) (contents r).deletions f.in_deletions
-    searched n = elim K.in_deletions_lem [ inl s ↦ s | inr u ↦ absurd (n u.0 u.1) ]
+    searched n = elim K.in_deletions [ inl s ↦ s | inr u ↦ absurd (n u.0 u.1) ]
 
     pub known_placed : Placed r f
     known_placed =
@@ -108,7 +108,7 @@ module _ (r : List ℕ) (o : Ordered r) where
           held_size = ap (λ (s : Section). s.size) K.held_is;
           deletion_size = ap (λ (s : Section). s.size) K.deletions_are;
           held_place = subst (place_of f.in_held) n (sought_place key (key l) (contents r).held f.in_held K.in_held);
-          deletion_place = elim K.in_deletions_lem [
+          deletion_place = elim K.in_deletions [
             | inl s ↦ subst (place_of f.in_deletions) m (sought_place deletion_key (key l) (contents r).deletions f.in_deletions s)
             | inr u ↦ rw u.2 (omega arith)
           ];
@@ -128,7 +128,7 @@ module _ (r : List ℕ) (o : Ordered r) where
         ≡ deed_of (contents r) l
     unfolding limited decide covered
     known_decides n e =
-        elim K.in_deletions_lem [
+        elim K.in_deletions [
           | inl s ↦
               sym (deed_of_lem (contents r) l n (entry_of (entries_of f.deletions r) f.in_deletions) (entry_of (entries_of f.held r) f.in_held) e
               (sought_find deletion_key (key l) (contents r).deletions (view_good r o).deletion_ascends f.in_deletions s ∙ ap (λ (xs : List (List ℕ)). entry_of xs f.in_deletions) (sym deletion_rows)) found_held)

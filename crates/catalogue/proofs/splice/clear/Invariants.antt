@@ -1,0 +1,16 @@
+use borrow.Author.Rules.{rules}
+use native.Mathlib.Omega.{arith}
+use lib.ListN.{length-replicate, get_or-replicate}
+use Prim.Native.Nat.{◌-◌}
+use Rattle.catalogue.specs.Splice.{zeros}
+use Rattle.catalogue.proofs.laws.section.Splicing.{Pasting, pasting_starts, pasting_turns, pasting_ends}
+use mathlib.Core.Path.{sym}
+use Rattle.catalogue.proofs.splice.clear.Given as goal
+
+abbrev pub invariant-loop-j : goal.invariant-loop-j
+invariant-loop-j l =
+    Pasting l.initial.room (zeros l.n) l.at l.n l.room l.j
+
+abbrev pub decreases-loop-j : goal.decreases-loop-j
+decreases-loop-j l =
+    l.n - l.j
