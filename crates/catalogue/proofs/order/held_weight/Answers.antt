@@ -22,7 +22,7 @@ slice_bounds-is_event-end c =
 
 pub returns-then-not-is_event : goal.returns-then-not-is_event
 returns-then-not-is_event c =
-    (sym (weight_refused _ _ ((ap is_event_line (sym (entry_part c.args.held c.args.s.now c.args.i c.requires.4 (ap (λ (x : Section). x.size) c.requires.0) c.entry_at-at.ensures)) ∙ sym c.is_event.ensures) ∙ not-true c.is_event.result c.if-not-is_event.true-raw)), omega arith)
+    (sym (weight_refused _ _ ((ap is_event_line (sym (entry_part c.args.held c.args.s.now c.args.i c.requires.4 (ap (λ (x : Section). x.size) c.requires.0) c.entry_at-at.ensures)) ∙ sym c.is_event.ensures) ∙ c.if-not-is_event.true)), omega arith)
 
 pub met-requires : goal.met-requires
 met-requires c =
@@ -40,18 +40,18 @@ entry_byte-requires-in-Found c =
 
 pub returns-then-entry_byte : goal.returns-then-entry_byte
 returns-then-entry_byte c = (
-  sym ((held_weighed c.args.s.now c.requires.0 c.requires.1 c.args.i c.key_of.ensures c.requires.5 ((ap is_event_line (sym (entry_part c.args.held c.args.s.now c.args.i c.requires.4 (ap (λ (x : Section). x.size) c.requires.0) c.entry_at-at.ensures)) ∙ sym c.is_event.ensures) ∙ not-false c.is_event.result c.if-not-is_event.false-raw) c.met.result c.met.ensures)
+  sym ((held_weighed c.args.s.now c.requires.0 c.requires.1 c.args.i c.key_of.ensures c.requires.5 ((ap is_event_line (sym (entry_part c.args.held c.args.s.now c.args.i c.requires.4 (ap (λ (x : Section). x.size) c.requires.0) c.entry_at-at.ensures)) ∙ sym c.is_event.ensures) ∙ c.if-not-is_event.false) c.met.result c.met.ensures)
       ∙ rw (c.in-Found.is, ← c.entry_byte.ensures, ← c.entry_byte-in-Found.ensures, lt-ltb _ _ c.if-entry_byte.true)),
   omega arith,
 )
 
 pub returns-in-Missing : goal.returns-in-Missing
 returns-in-Missing c =
-    (sym ((held_weighed c.args.s.now c.requires.0 c.requires.1 c.args.i c.key_of.ensures c.requires.5 ((ap is_event_line (sym (entry_part c.args.held c.args.s.now c.args.i c.requires.4 (ap (λ (x : Section). x.size) c.requires.0) c.entry_at-at.ensures)) ∙ sym c.is_event.ensures) ∙ not-false c.is_event.result c.if-not-is_event.false-raw) c.met.result c.met.ensures) ∙ rw c.in-Missing.is), omega arith)
+    (sym ((held_weighed c.args.s.now c.requires.0 c.requires.1 c.args.i c.key_of.ensures c.requires.5 ((ap is_event_line (sym (entry_part c.args.held c.args.s.now c.args.i c.requires.4 (ap (λ (x : Section). x.size) c.requires.0) c.entry_at-at.ensures)) ∙ sym c.is_event.ensures) ∙ c.if-not-is_event.false) c.met.result c.met.ensures) ∙ rw c.in-Missing.is), omega arith)
 
 pub returns-else-entry_byte : goal.returns-else-entry_byte
 returns-else-entry_byte c = (
-  sym ((held_weighed c.args.s.now c.requires.0 c.requires.1 c.args.i c.key_of.ensures c.requires.5 ((ap is_event_line (sym (entry_part c.args.held c.args.s.now c.args.i c.requires.4 (ap (λ (x : Section). x.size) c.requires.0) c.entry_at-at.ensures)) ∙ sym c.is_event.ensures) ∙ not-false c.is_event.result c.if-not-is_event.false-raw) c.met.result c.met.ensures)
+  sym ((held_weighed c.args.s.now c.requires.0 c.requires.1 c.args.i c.key_of.ensures c.requires.5 ((ap is_event_line (sym (entry_part c.args.held c.args.s.now c.args.i c.requires.4 (ap (λ (x : Section). x.size) c.requires.0) c.entry_at-at.ensures)) ∙ sym c.is_event.ensures) ∙ c.if-not-is_event.false) c.met.result c.met.ensures)
       ∙ rw (c.in-Found.is, ← c.entry_byte.ensures, ← c.entry_byte-in-Found.ensures, le-ltb _ _ c.if-entry_byte.false)),
   omega arith,
 )

@@ -34,7 +34,7 @@ returns-then-links-gt-LINKS c =
 
 pub ascending-requires : goal.ascending-requires
 ascending-requires c =
-    deletions_within ((record {
+    deletions_within (record {
       full = c.requires;
       held_is = c.held_in-held.ensures;
       deletions_are = c.deletions_in-deletions.ensures;
@@ -42,11 +42,11 @@ ascending-requires c =
       few_held = c.if-held-gt-PAIRS.false;
       few_deletions = c.if-deletions-gt-PAIRS.false;
       few_links = c.if-links-gt-LINKS.false;
-    }))
+    })
 
 pub returns-then-not-ascending : goal.returns-then-not-ascending
 returns-then-not-ascending c =
-    deletions_mixed ((record {
+    deletions_mixed (record {
       full = c.requires;
       held_is = c.held_in-held.ensures;
       deletions_are = c.deletions_in-deletions.ensures;
@@ -54,11 +54,11 @@ returns-then-not-ascending c =
       few_held = c.if-held-gt-PAIRS.false;
       few_deletions = c.if-deletions-gt-PAIRS.false;
       few_links = c.if-links-gt-LINKS.false;
-    })) (sym c.ascending.ensures ∙ not-true c.ascending.result c.if-not-ascending.true-raw)
+    }) (sym c.ascending.ensures ∙ c.if-not-ascending.true)
 
 pub ascending-requires-2 : goal.ascending-requires-2
 ascending-requires-2 c =
-    held_within ((record {
+    held_within (record {
       full = c.requires;
       held_is = c.held_in-held.ensures;
       deletions_are = c.deletions_in-deletions.ensures;
@@ -66,11 +66,11 @@ ascending-requires-2 c =
       few_held = c.if-held-gt-PAIRS.false;
       few_deletions = c.if-deletions-gt-PAIRS.false;
       few_links = c.if-links-gt-LINKS.false;
-    }))
+    })
 
 pub returns-then-not-ascending-2 : goal.returns-then-not-ascending-2
 returns-then-not-ascending-2 c =
-    held_mixed ((record {
+    held_mixed (record {
       full = c.requires;
       held_is = c.held_in-held.ensures;
       deletions_are = c.deletions_in-deletions.ensures;
@@ -78,11 +78,11 @@ returns-then-not-ascending-2 c =
       few_held = c.if-held-gt-PAIRS.false;
       few_deletions = c.if-deletions-gt-PAIRS.false;
       few_links = c.if-links-gt-LINKS.false;
-    })) (sym c.ascending-2.ensures ∙ not-true c.ascending-2.result c.if-not-ascending-2.true-raw)
+    }) (sym c.ascending-2.ensures ∙ c.if-not-ascending-2.true)
 
 pub deletions_allowed-requires : goal.deletions_allowed-requires
 deletions_allowed-requires c =
-    let s = (record {
+    let s : Sections c.args.s.now c.held_in-held.result c.deletions_in-deletions.result c.links_in-links.result = record {
       full = c.requires;
       held_is = c.held_in-held.ensures;
       deletions_are = c.deletions_in-deletions.ensures;
@@ -90,12 +90,12 @@ deletions_allowed-requires c =
       few_held = c.if-held-gt-PAIRS.false;
       few_deletions = c.if-deletions-gt-PAIRS.false;
       few_links = c.if-links-gt-LINKS.false;
-    }) in
+    } in
     (deletions_within s, ap (λ (x : Section). x.size) s.deletions_are)
 
 pub returns-then-not-deletions_allowed : goal.returns-then-not-deletions_allowed
 returns-then-not-deletions_allowed c =
-    deletions_barred ((record {
+    deletions_barred (record {
       full = c.requires;
       held_is = c.held_in-held.ensures;
       deletions_are = c.deletions_in-deletions.ensures;
@@ -103,11 +103,11 @@ returns-then-not-deletions_allowed c =
       few_held = c.if-held-gt-PAIRS.false;
       few_deletions = c.if-deletions-gt-PAIRS.false;
       few_links = c.if-links-gt-LINKS.false;
-    })) (sym c.deletions_allowed.ensures ∙ not-true c.deletions_allowed.result c.if-not-deletions_allowed.true-raw)
+    }) (sym c.deletions_allowed.ensures ∙ c.if-not-deletions_allowed.true)
 
 pub links_fine-requires : goal.links_fine-requires
 links_fine-requires c =
-    let s = (record {
+    let s : Sections c.args.s.now c.held_in-held.result c.deletions_in-deletions.result c.links_in-links.result = record {
       full = c.requires;
       held_is = c.held_in-held.ensures;
       deletions_are = c.deletions_in-deletions.ensures;
@@ -115,12 +115,12 @@ links_fine-requires c =
       few_held = c.if-held-gt-PAIRS.false;
       few_deletions = c.if-deletions-gt-PAIRS.false;
       few_links = c.if-links-gt-LINKS.false;
-    }) in
+    } in
     (links_within s, ap (λ (x : Section). x.size) s.links_are)
 
 pub returns-then-not-links_fine : goal.returns-then-not-links_fine
 returns-then-not-links_fine c =
-    links_unfit ((record {
+    links_unfit (record {
       full = c.requires;
       held_is = c.held_in-held.ensures;
       deletions_are = c.deletions_in-deletions.ensures;
@@ -128,11 +128,11 @@ returns-then-not-links_fine c =
       few_held = c.if-held-gt-PAIRS.false;
       few_deletions = c.if-deletions-gt-PAIRS.false;
       few_links = c.if-links-gt-LINKS.false;
-    })) (sym c.links_fine.ensures ∙ not-true c.links_fine.result c.if-not-links_fine.true-raw)
+    }) (sym c.links_fine.ensures ∙ c.if-not-links_fine.true)
 
 pub only_held-requires : goal.only_held-requires
 only_held-requires c =
-    let s = (record {
+    let s : Sections c.args.s.now c.held_in-held.result c.deletions_in-deletions.result c.links_in-links.result = record {
       full = c.requires;
       held_is = c.held_in-held.ensures;
       deletions_are = c.deletions_in-deletions.ensures;
@@ -140,14 +140,14 @@ only_held-requires c =
       few_held = c.if-held-gt-PAIRS.false;
       few_deletions = c.if-deletions-gt-PAIRS.false;
       few_links = c.if-links-gt-LINKS.false;
-    }) in (
+    } in (
       s.held_is,
       s.deletions_are,
       held_within s,
       deletions_within s,
       s.few_held,
-      held_asc s (sym c.ascending-2.ensures ∙ not-false c.ascending-2.result c.if-not-ascending-2.false-raw),
-      deletions_asc s (sym c.ascending.ensures ∙ not-false c.ascending.result c.if-not-ascending.false-raw),
+      held_asc s (sym c.ascending-2.ensures ∙ c.if-not-ascending-2.false),
+      deletions_asc s (sym c.ascending.ensures ∙ c.if-not-ascending.false),
     )
 
 pub overflow_add-named : goal.overflow_add-named
@@ -156,7 +156,7 @@ overflow_add-named c =
 
 pub returns-then-named-gt-PAIRS : goal.returns-then-named-gt-PAIRS
 returns-then-named-gt-PAIRS c =
-    many_named ((record {
+    many_named (record {
       full = c.requires;
       held_is = c.held_in-held.ensures;
       deletions_are = c.deletions_in-deletions.ensures;
@@ -164,11 +164,11 @@ returns-then-named-gt-PAIRS c =
       few_held = c.if-held-gt-PAIRS.false;
       few_deletions = c.if-deletions-gt-PAIRS.false;
       few_links = c.if-links-gt-LINKS.false;
-    })) c.only_held.ensures.0 c.if-named-gt-PAIRS.true
+    }) c.only_held.ensures.0 c.if-named-gt-PAIRS.true
 
 pub end_of-used-requires : goal.end_of-used-requires
 end_of-used-requires c =
-    let s = (record {
+    let s : Sections c.args.s.now c.held_in-held.result c.deletions_in-deletions.result c.links_in-links.result = record {
       full = c.requires;
       held_is = c.held_in-held.ensures;
       deletions_are = c.deletions_in-deletions.ensures;
@@ -176,12 +176,12 @@ end_of-used-requires c =
       few_held = c.if-held-gt-PAIRS.false;
       few_deletions = c.if-deletions-gt-PAIRS.false;
       few_links = c.if-links-gt-LINKS.false;
-    }) in
+    } in
     omega (arith, links_end s, s.full, room_size_lem)
 
 pub zeros-requires : goal.zeros-requires
 zeros-requires c =
-    let s = (record {
+    let s : Sections c.args.s.now c.held_in-held.result c.deletions_in-deletions.result c.links_in-links.result = record {
       full = c.requires;
       held_is = c.held_in-held.ensures;
       deletions_are = c.deletions_in-deletions.ensures;
@@ -189,13 +189,13 @@ zeros-requires c =
       few_held = c.if-held-gt-PAIRS.false;
       few_deletions = c.if-deletions-gt-PAIRS.false;
       few_links = c.if-links-gt-LINKS.false;
-    }) in
+    } in
     (omega (arith, c.end_of-used.ensures, links_end s), omega (arith, s.full, room_size_lem))
 
 pub returns-then-zeros : goal.returns-then-zeros
 returns-then-zeros c =
-    rw c.if-zeros.true at ((let c = c in
-    named_pairs ((record {
+    rw c.if-zeros.true at
+    (named_pairs (record {
       full = c.requires;
       held_is = c.held_in-held.ensures;
       deletions_are = c.deletions_in-deletions.ensures;
@@ -203,17 +203,17 @@ returns-then-zeros c =
       few_held = c.if-held-gt-PAIRS.false;
       few_deletions = c.if-deletions-gt-PAIRS.false;
       few_links = c.if-links-gt-LINKS.false;
-    })) c.only_held.ensures.0
-    (sym c.ascending.ensures ∙ not-false c.ascending.result c.if-not-ascending.false-raw)
-    (sym c.ascending-2.ensures ∙ not-false c.ascending-2.result c.if-not-ascending-2.false-raw)
-    (sym c.deletions_allowed.ensures ∙ not-false c.deletions_allowed.result c.if-not-deletions_allowed.false-raw)
-    (sym c.links_fine.ensures ∙ not-false c.links_fine.result c.if-not-links_fine.false-raw)
-    c.if-named-gt-PAIRS.false (λ (i : ℕ). omega (arith, c.shared_slice_known-1.given i)) c.end_of-used.ensures c.zeros.ensures))
+    }) c.only_held.ensures.0
+    (sym c.ascending.ensures ∙ c.if-not-ascending.false)
+    (sym c.ascending-2.ensures ∙ c.if-not-ascending-2.false)
+    (sym c.deletions_allowed.ensures ∙ c.if-not-deletions_allowed.false)
+    (sym c.links_fine.ensures ∙ c.if-not-links_fine.false)
+    c.if-named-gt-PAIRS.false (λ (i : ℕ). omega (arith, c.shared_slice_known-1.given i)) c.end_of-used.ensures c.zeros.ensures)
 
 pub returns : goal.returns
 returns c =
-    rw c.if-zeros.false at ((let c = c in
-    named_pairs ((record {
+    rw c.if-zeros.false at
+    (named_pairs (record {
       full = c.requires;
       held_is = c.held_in-held.ensures;
       deletions_are = c.deletions_in-deletions.ensures;
@@ -221,9 +221,9 @@ returns c =
       few_held = c.if-held-gt-PAIRS.false;
       few_deletions = c.if-deletions-gt-PAIRS.false;
       few_links = c.if-links-gt-LINKS.false;
-    })) c.only_held.ensures.0
-    (sym c.ascending.ensures ∙ not-false c.ascending.result c.if-not-ascending.false-raw)
-    (sym c.ascending-2.ensures ∙ not-false c.ascending-2.result c.if-not-ascending-2.false-raw)
-    (sym c.deletions_allowed.ensures ∙ not-false c.deletions_allowed.result c.if-not-deletions_allowed.false-raw)
-    (sym c.links_fine.ensures ∙ not-false c.links_fine.result c.if-not-links_fine.false-raw)
-    c.if-named-gt-PAIRS.false (λ (i : ℕ). omega (arith, c.shared_slice_known-1.given i)) c.end_of-used.ensures c.zeros.ensures))
+    }) c.only_held.ensures.0
+    (sym c.ascending.ensures ∙ c.if-not-ascending.false)
+    (sym c.ascending-2.ensures ∙ c.if-not-ascending-2.false)
+    (sym c.deletions_allowed.ensures ∙ c.if-not-deletions_allowed.false)
+    (sym c.links_fine.ensures ∙ c.if-not-links_fine.false)
+    c.if-named-gt-PAIRS.false (λ (i : ℕ). omega (arith, c.shared_slice_known-1.given i)) c.end_of-used.ensures c.zeros.ensures)

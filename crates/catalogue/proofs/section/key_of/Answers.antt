@@ -8,16 +8,16 @@ use Rattle.catalogue.proofs.section.key_of.Goals as goal
 
 pub overflow_add-at : goal.overflow_add-at
 overflow_add-at c =
-    omega (arith, (omega (arith, c.entry_at-at.ensures, entry_fits c.args.of c.args.s.now c.requires.0 c.args.i c.requires.1)), c.requires.0.source)
+    omega (arith, c.entry_at-at.ensures, entry_fits c.args.of c.args.s.now c.requires.0 c.args.i c.requires.1, c.requires.0.source)
 
 pub overflow_add-at-2 : goal.overflow_add-at-2
 overflow_add-at-2 c =
-    omega (arith, (omega (arith, c.entry_at-at.ensures, entry_fits c.args.of c.args.s.now c.requires.0 c.args.i c.requires.1)), c.requires.0.identifier)
+    omega (arith, c.entry_at-at.ensures, entry_fits c.args.of c.args.s.now c.requires.0 c.args.i c.requires.1, c.requires.0.identifier)
 
 pub key_at-requires : goal.key_at-requires
 key_at-requires c =
     let i = c.requires.0 in
-    (omega (arith, (omega (arith, c.entry_at-at.ensures, entry_fits c.args.of c.args.s.now c.requires.0 c.args.i c.requires.1)), i.source), omega (arith, (omega (arith, c.entry_at-at.ensures, entry_fits c.args.of c.args.s.now c.requires.0 c.args.i c.requires.1)), i.identifier), λ t. omega (arith, (omega (arith, c.entry_at-at.ensures, entry_fits c.args.of c.args.s.now c.requires.0 c.args.i c.requires.1)), i.type t))
+    (omega (arith, c.entry_at-at.ensures, entry_fits c.args.of c.args.s.now c.requires.0 c.args.i c.requires.1, i.source), omega (arith, c.entry_at-at.ensures, entry_fits c.args.of c.args.s.now c.requires.0 c.args.i c.requires.1, i.identifier), λ t. omega (arith, c.entry_at-at.ensures, entry_fits c.args.of c.args.s.now c.requires.0 c.args.i c.requires.1, i.type t))
 
 pub returns : goal.returns
 returns c =
