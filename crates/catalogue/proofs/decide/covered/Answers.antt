@@ -1,4 +1,3 @@
-use borrow.Author.Rules.{rules}
 use native.Mathlib.Omega.{arith}
 use Rattle.catalogue.specs.Line.{deletion_version}
 use Rattle.catalogue.specs.Taking.{covered}

@@ -1,4 +1,3 @@
-use borrow.Author.Rules.{rules}
 use Rattle.catalogue.specs.Line.{version}
 use Rattle.catalogue.specs.Taking.{decide}
 use Rattle.catalogue.proofs.decide.decide.Goals as goal

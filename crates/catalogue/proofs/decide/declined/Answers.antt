@@ -1,4 +1,3 @@
-use borrow.Author.Rules.{rules}
 use mathlib.Core.Path.{sym, ap}
 use Rattle.catalogue.specs.Taking.{declined}
 use Rattle.catalogue.proofs.decide.declined.Goals as goal

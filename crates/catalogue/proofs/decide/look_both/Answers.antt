@@ -1,11 +1,7 @@
-use borrow.Author.Rules.{rules}
 use native.Mathlib.Omega.{arith}
 use lib.ListN.{length}
 use mathlib.Core.Path.{refl, ◌∙◌, ap}
 use mathlib.Core.Logic.{inl, inr}
-use Rattle.catalogue.specs.Line.{key}
-use Rattle.catalogue.specs.Room.{contents}
-use Rattle.catalogue.specs.Entries.{Sought}
 use Rattle.catalogue.specs.Findings.{notice_kind}
 use Rattle.catalogue.proofs.laws.step.Line.{whole}
 use Rattle.catalogue.proofs.laws.room.Places.{untyped}

@@ -1,8 +1,5 @@
-use borrow.Author.Rules.{rules}
 use native.Mathlib.Omega.{arith}
-use Prim.Native.Nat.{◌+◌, ◌≤◌, ◌<◌}
 use borrow.Author.Tests.{lt-ltb, le-ltb}
-use lib.ListN.{length}
 use Rattle.catalogue.specs.Line.{version}
 use Rattle.catalogue.specs.Taking.{over_held}
 use Rattle.catalogue.proofs.laws.section.Rows.{entry_end, entry_part}

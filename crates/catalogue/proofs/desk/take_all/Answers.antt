@@ -1,8 +1,6 @@
 use borrow.Author.Rules.{rules}
 use native.Mathlib.Omega.{arith}
-use Prim.Native.Nat.{◌-◌}
-use lib.ListN.{length}
-use Rattle.catalogue.proofs.laws.demand.Desk.{Feeding, feeding_starts, feeding_within, feeding_turns, feeding_ends}
+use Rattle.catalogue.proofs.laws.demand.Desk.{feeding_starts, feeding_within, feeding_turns, feeding_ends}
 use Rattle.catalogue.proofs.desk.take_all.Goals as goal
 
 pub loop-i-init : goal.loop-i-init

@@ -1,4 +1,3 @@
-use borrow.Author.Rules.{rules}
 use Rattle.catalogue.proofs.laws.demand.Desk.{desks}
 use Rattle.catalogue.proofs.desk.two_desks.Goals as goal
 

@@ -1,4 +1,3 @@
-use borrow.Author.Rules.{rules}
 use Rattle.catalogue.proofs.key.key_at.Goals as goal
 
 -- With a type or without one.

@@ -1,4 +1,3 @@
-use borrow.Author.Rules.{rules}
 use mathlib.Core.Path.{refl}
 use Rattle.catalogue.proofs.laws.section.Keys.{plain_key}
 use Rattle.catalogue.proofs.key.pair_at.Goals as goal

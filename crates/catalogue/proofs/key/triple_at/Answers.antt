@@ -1,4 +1,3 @@
-use borrow.Author.Rules.{rules}
 use native.Mathlib.Omega.{arith}
 use Rattle.catalogue.proofs.laws.section.Keys.{typed_key}
 use Rattle.catalogue.proofs.key.triple_at.Goals as goal

@@ -1,11 +1,9 @@
-use borrow.Author.Rules.{rules}
 use native.Mathlib.Omega.{arith}
-use mathlib.Core.Path.{◌≡◌, refl, sym}
-use Prim.Native.Nat.{◌≤◌, ◌-◌}
-use lib.ListN.{length, drop, length-drop}
+use mathlib.Core.Path.{refl, sym}
+use lib.ListN.{drop, length-drop}
 use lib.Seq.{get_or-drop}
 use Rattle.catalogue.specs.Line.{type_at}
-use Rattle.catalogue.proofs.laws.section.Types.{Typing, typing_starts, typing_long, typing_turns, typing_stops, typing_ends}
+use Rattle.catalogue.proofs.laws.section.Types.{typing_starts, typing_long, typing_turns, typing_stops, typing_ends}
 use Rattle.catalogue.proofs.key.type_at.Goals as goal
 
 pub loop-i-init : goal.loop-i-init

@@ -1,11 +1,7 @@
-use borrow.Author.Rules.{rules}
-use native.Mathlib.Omega.{arith}
-use mathlib.Core.Path.{◌≡◌, refl, sym}
+use mathlib.Core.Path.{◌≡◌}
 use Prim.Native.Nat.{◌≤◌, ◌-◌}
-use lib.ListN.{length, drop, length-drop}
-use lib.Seq.{get_or-drop}
-use Rattle.catalogue.specs.Line.{type_at}
-use Rattle.catalogue.proofs.laws.section.Types.{Typing, typing_starts, typing_long, typing_turns, typing_stops, typing_ends}
+use lib.ListN.{length, drop}
+use Rattle.catalogue.proofs.laws.section.Types.{Typing}
 use Rattle.catalogue.proofs.key.type_at.Given as goal
 
 -- The first i bytes are no blanks and stand in the array.

@@ -1,4 +1,3 @@
-use borrow.Author.Rules.{rules}
 use mathlib.Core.Path.{◌∙◌}
 use Rattle.catalogue.proofs.laws.room.Linked.{entry_made}
 use Rattle.catalogue.proofs.link.link_entry.Goals as goal

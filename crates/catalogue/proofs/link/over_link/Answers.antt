@@ -1,7 +1,4 @@
-use borrow.Author.Rules.{rules}
 use native.Mathlib.Omega.{arith}
-use Prim.Native.Nat.{◌+◌, ◌≤◌, ◌<◌}
-use lib.ListN.{length}
 use Rattle.catalogue.specs.Taking.{over_link}
 use Rattle.catalogue.proofs.laws.section.Rows.{entry_end, entry_part}
 use Rattle.catalogue.proofs.laws.room.Linked.{link_outdated, link_repeated, link_replaced}

@@ -1,4 +1,3 @@
-use borrow.Author.Rules.{rules}
 use mathlib.Core.Path.{sym, ◌∙◌}
 use Rattle.catalogue.proofs.laws.room.Found.{long_enough}
 use Rattle.catalogue.proofs.laws.room.Linked.{store_asks, store_room, link_left}

@@ -1,4 +1,3 @@
-use borrow.Author.Rules.{rules}
 use mathlib.Core.Path.{refl}
 use Rattle.catalogue.proofs.laws.room.LookUp.{key_pair}
 use Rattle.catalogue.proofs.look_up.key_by.Goals as goal

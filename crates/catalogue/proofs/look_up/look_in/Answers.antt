@@ -1,12 +1,9 @@
-use borrow.Author.Rules.{rules}
 use native.Mathlib.Omega.{arith}
-use mathlib.Core.Path.{◌≡◌, refl, ◌∙◌}
-use Rattle.catalogue.specs.Room.{contents}
-use Rattle.catalogue.specs.LookUp.{looked_in}
+use mathlib.Core.Path.{refl, ◌∙◌}
 use Rattle.catalogue.specs.Keys.{key_number}
 use Rattle.catalogue.proofs.laws.room.Encode.{room_size_lem}
 use Rattle.catalogue.proofs.laws.room.Found.{held_open, held_sought}
-use Rattle.catalogue.proofs.laws.room.LookUp.{seen, seen_is}
+use Rattle.catalogue.proofs.laws.room.LookUp.{seen_is}
 use Rattle.catalogue.proofs.look_up.look_in.Goals as goal
 
 pub held_in-held-requires : goal.held_in-held-requires

@@ -1,8 +1,6 @@
-use borrow.Author.Rules.{rules}
 use native.Mathlib.Omega.{arith}
 use mathlib.Core.Path.{◌∙◌}
 use Prim.Native.Nat.{ℕ}
-use Rattle.catalogue.specs.Ordered.{Ordered}
 use Rattle.catalogue.specs.LookUp.{looked, look_up}
 use Rattle.catalogue.proofs.laws.room.Encode.{room_size_lem}
 use Rattle.catalogue.proofs.laws.room.Order.{front_length, front_ordered, front_disordered}

@@ -1,6 +1,4 @@
-use borrow.Author.Rules.{rules}
 use native.Mathlib.Omega.{arith}
-use Prim.Native.Nat.{◌≤◌, ◌<◌}
 use Rattle.catalogue.specs.Moves.{put_in}
 use Rattle.catalogue.proofs.laws.section.Rows.{row_before, row_inside}
 use Rattle.catalogue.proofs.moves.put.Goals as goal

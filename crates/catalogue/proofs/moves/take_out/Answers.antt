@@ -1,4 +1,3 @@
-use borrow.Author.Rules.{rules}
 use native.Mathlib.Omega.{arith}
 use Rattle.catalogue.specs.Moves.{taken_out}
 use Rattle.catalogue.proofs.laws.section.Rows.{row_inside}

@@ -1,12 +1,7 @@
-use borrow.Author.Rules.{rules}
 use native.Mathlib.Omega.{arith}
-use mathlib.Core.Path.{◌≡◌, refl, sym, ◌∙◌}
-use Prim.Native.Nat.{◌+◌, ◌-◌, ◌≤◌}
+use mathlib.Core.Path.{refl, sym, ◌∙◌}
 use borrow.Author.Tests.{eq-eqb, ne_eqb}
-use mathlib.Core.List.{[]}
-use lib.Dec.{eqb}
-use lib.ListN.{length, drop, get_or}
-use Rattle.catalogue.specs.Good.{every, deletion_ok}
+use Rattle.catalogue.specs.Good.{deletion_ok}
 use Rattle.catalogue.specs.Entries.{entries_of}
 use Rattle.catalogue.proofs.laws.section.Rows.{entries_length, entry_end}
 use Rattle.catalogue.proofs.laws.section.Search.{every_more, every_stop, every_end}

@@ -1,15 +1,10 @@
-use borrow.Author.Rules.{rules}
 use native.Mathlib.Omega.{arith}
-use mathlib.Core.Path.{◌≡◌, sym, ◌∙◌, ap}
-use borrow.Author.Tests.{not-true, not-false, lt-ltb, le-ltb}
-use Prim.Native.Nat.{◌+◌, ◌≤◌}
-use mathlib.Core.List.{[]}
-use lib.ListN.{length, get_or}
+use mathlib.Core.Path.{sym, ◌∙◌, ap}
+use borrow.Author.Tests.{lt-ltb, le-ltb}
 use Rattle.formats.specs.Judge.{is_event_line}
 use Rattle.catalogue.specs.declared.section.Section.{Section}
-use Rattle.catalogue.specs.Entries.{entries_of, entry_of}
 use Rattle.catalogue.proofs.laws.section.Rows.{entries_length, entry_end, entry_part}
-use Rattle.catalogue.proofs.laws.room.Weight.{weight_of, weight_by, weight_refused, place_keyed, held_weighed}
+use Rattle.catalogue.proofs.laws.room.Weight.{weight_refused, place_keyed, held_weighed}
 use Rattle.catalogue.proofs.order.held_weight.Goals as goal
 
 pub overflow_add-end : goal.overflow_add-end

@@ -1,13 +1,8 @@
-use borrow.Author.Rules.{rules}
-use native.Mathlib.Omega.{arith}
-use mathlib.Core.Path.{◌≡◌, refl, sym, ◌∙◌, ap}
-use Prim.Native.Nat.{◌+◌, ◌-◌, ◌≤◌}
-use mathlib.Core.List.{[]}
-use lib.ListN.{length, drop, get_or}
+use mathlib.Core.Path.{◌≡◌}
+use Prim.Native.Nat.{◌-◌}
+use lib.ListN.{drop}
 use Rattle.catalogue.specs.Good.{every, link_ok}
 use Rattle.catalogue.specs.Entries.{entries_of}
-use Rattle.catalogue.proofs.laws.section.Rows.{entries_length, entry_end, entry_part, entry_length}
-use Rattle.catalogue.proofs.laws.section.Search.{every_more, every_stop, every_end}
 use Rattle.catalogue.proofs.order.links_allowed.Given as goal
 
 -- Every link from the i-th on is laid out so where all are.

@@ -1,4 +1,3 @@
-use borrow.Author.Rules.{rules}
 use Rattle.catalogue.proofs.order.links_fine.Goals as goal
 
 -- Both tests.

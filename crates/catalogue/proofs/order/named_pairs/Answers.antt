@@ -1,11 +1,9 @@
 use native.Mathlib.Omega.{arith}
 use mathlib.Core.Path.{sym, ◌∙◌, ap}
-use Prim.Native.Nat.{ℕ, ◌+◌}
-use borrow.Author.Tests.{not-true, not-false}
-use Rattle.columns.specs.Answer.{pick}
+use Prim.Native.Nat.{ℕ}
 use Rattle.catalogue.specs.declared.section.Section.{Section}
 use Rattle.catalogue.proofs.laws.room.Encode.{room_size_lem}
-use Rattle.catalogue.proofs.laws.room.Order.{PairsOf, Sections, many_held, held_end, held_within, many_deletions, deletions_end, deletions_within, many_links, links_end, links_within, held_asc, deletions_asc, deletions_mixed, held_mixed, deletions_barred, links_unfit, many_named, named_pairs}
+use Rattle.catalogue.proofs.laws.room.Order.{Sections, many_held, held_end, held_within, many_deletions, deletions_end, deletions_within, many_links, links_end, links_within, held_asc, deletions_asc, deletions_mixed, held_mixed, deletions_barred, links_unfit, many_named, named_pairs}
 use Rattle.catalogue.proofs.order.named_pairs.Goals as goal
 
 pub held_in-held-requires : goal.held_in-held-requires

@@ -1,15 +1,6 @@
-use borrow.Author.Rules.{rules}
-use native.Mathlib.Omega.{arith}
-use mathlib.Core.Path.{◌≡◌, ◌∙◌}
-use mathlib.Core.List.{[]}
-use lib.ListN.{get_or}
-use Rattle.catalogue.specs.Line.{key, deletion_key}
-use Rattle.catalogue.specs.Assoc.{below}
 use Prim.Native.Nat.{◌-◌}
-use Rattle.catalogue.specs.Keys.{key_number}
-use Rattle.catalogue.specs.Entries.{entries_of, key_of_entry}
-use Rattle.catalogue.proofs.laws.section.Rows.{entries_length}
-use Rattle.catalogue.proofs.laws.room.Weight.{Walk, place_keyed, deletion_asc_keyed, walk_start, walk_stop, walk_more, walk_end}
+use Rattle.catalogue.specs.Entries.{entries_of}
+use Rattle.catalogue.proofs.laws.room.Weight.{Walk}
 use Rattle.catalogue.proofs.order.only_held.Given as goal
 
 -- The walk over the held lines, a turn at a time; the deletions are walked beside them.

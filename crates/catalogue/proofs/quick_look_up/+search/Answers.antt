@@ -1,5 +1,4 @@
 -- Each turn is one of the rule; the stretch grows shorter, and what may still be examined is enough for it.
-use borrow.Author.Rules.{rules}
 use native.Mathlib.Omega.{arith}
 use Rattle.catalogue.specs.Keys.{pair_key, key_number}
 use Rattle.catalogue.proofs.laws.room.QuickLookUp.{one_left, middle_held, half_after, half_before, search_empty, search_met, search_after, search_before}

@@ -1,12 +1,8 @@
-use borrow.Author.Rules.{rules}
 use native.Mathlib.Omega.{arith}
-use mathlib.Core.Path.{◌≡◌, refl, ◌∙◌, ap, subst}
+use mathlib.Core.Path.{refl, ◌∙◌, ap, subst}
 use Prim.Native.Nat.{ℕ, ◌≤◌}
-use lib.ListN.{length}
 use Rattle.catalogue.specs.declared.section.Section.{Section}
-use Rattle.catalogue.specs.Room.{room_size}
 use Rattle.catalogue.specs.Halving.{binary_digits}
-use Rattle.catalogue.specs.QuickLookUp.{held_count}
 use Rattle.catalogue.proofs.laws.room.Encode.{room_size_lem}
 use Rattle.catalogue.proofs.laws.room.LookUp.{key_pair}
 use Rattle.catalogue.proofs.laws.room.QuickLookUp.{held_total, low_inside, quick_short, quick_disorder, quick_source, quick_identifier, quick_searched, answered}

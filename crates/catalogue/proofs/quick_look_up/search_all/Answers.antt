@@ -1,4 +1,3 @@
-use borrow.Author.Rules.{rules}
 use native.Mathlib.Omega.{arith}
 use lib.Count.{leading_le}
 use Rattle.catalogue.specs.Keys.{pair_key, key_number}

@@ -1,4 +1,3 @@
-use borrow.Author.Rules.{rules}
 use Rattle.catalogue.proofs.room.held_in.Goals as goal
 
 -- The count is the first two bytes.

@@ -1,4 +1,3 @@
-use borrow.Author.Rules.{rules}
 use Rattle.catalogue.proofs.room.section_after.Goals as goal
 
 -- The count stands at the end of the section before.

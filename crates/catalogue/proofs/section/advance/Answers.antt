@@ -1,9 +1,7 @@
-use borrow.Author.Rules.{rules}
 use native.Mathlib.Omega.{arith}
 use mathlib.Core.Path.{sym, ◌∙◌, ap}
-use Prim.Native.Nat.{ℕ, ◌-◌, ◌≤◌}
+use Prim.Native.Nat.{ℕ}
 use lib.Dec.{ltb}
-use Rattle.catalogue.specs.Assoc.{below}
 use Rattle.catalogue.specs.Keys.{key_number}
 use Rattle.catalogue.specs.Entries.{entries_of, key_of_entry}
 use Rattle.catalogue.proofs.laws.section.Rows.{entries_length}

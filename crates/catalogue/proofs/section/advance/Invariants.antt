@@ -1,13 +1,7 @@
-use borrow.Author.Rules.{rules}
-use native.Mathlib.Omega.{arith}
-use mathlib.Core.Path.{sym, ◌∙◌, ap}
-use Prim.Native.Nat.{ℕ, ◌-◌, ◌≤◌}
-use lib.Dec.{ltb}
+use Prim.Native.Nat.{◌-◌, ◌≤◌}
 use Rattle.catalogue.specs.Assoc.{below}
 use Rattle.catalogue.specs.Keys.{key_number}
 use Rattle.catalogue.specs.Entries.{entries_of, key_of_entry}
-use Rattle.catalogue.proofs.laws.section.Rows.{entries_length}
-use Rattle.catalogue.proofs.laws.section.Search.{walked, arrived, at_end}
 use Rattle.catalogue.proofs.section.advance.Given as goal
 
 -- The place is not passed; each turn passes an entry below the key.

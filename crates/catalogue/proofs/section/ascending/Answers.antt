@@ -1,11 +1,9 @@
-use borrow.Author.Rules.{rules}
 use native.Mathlib.Omega.{arith}
-use mathlib.Core.Path.{◌≡◌, sym, ◌∙◌, ap₂}
-use Prim.Native.Nat.{suc, ◌-◌, ◌≤◌, ◌<◌}
+use mathlib.Core.Path.{sym, ◌∙◌, ap₂}
+use Prim.Native.Nat.{suc, ◌-◌, ◌<◌}
 use mathlib.Core.List.{[]}
 use lib.Dec.{ltb}
-use lib.ListN.{drop, get_or}
-use Rattle.catalogue.specs.Good.{ascends}
+use lib.ListN.{get_or}
 use Rattle.catalogue.specs.Entries.{entries_of, key_of_entry}
 use Rattle.columns.proofs.laws.Tri.{tri, less, same, more}
 use Rattle.catalogue.proofs.laws.section.Rows.{entries_length}

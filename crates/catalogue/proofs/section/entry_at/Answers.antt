@@ -1,4 +1,3 @@
-use borrow.Author.Rules.{rules}
 use native.Mathlib.Omega.{arith}
 use Rattle.catalogue.proofs.laws.section.Rows.{row_before}
 use Rattle.catalogue.proofs.section.entry_at.Goals as goal

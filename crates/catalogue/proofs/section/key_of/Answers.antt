@@ -1,8 +1,5 @@
-use borrow.Author.Rules.{rules}
 use native.Mathlib.Omega.{arith}
 use mathlib.Core.Path.{◌∙◌}
-use Prim.Native.Nat.{◌+◌, ◌≤◌}
-use lib.ListN.{length}
 use Rattle.catalogue.proofs.laws.section.Rows.{entry_fits, entry_key}
 use Rattle.catalogue.proofs.section.key_of.Goals as goal
 

@@ -3,11 +3,10 @@ use native.Mathlib.Omega.{arith}
 use mathlib.Core.Path.{◌∙◌, ap}
 use Prim.Native.Nat.{ℕ, ◌+◌, ◌-◌, ◌/◌}
 use lib.Dec.{ltb}
-use Rattle.catalogue.specs.Assoc.{below}
 use Rattle.catalogue.specs.Keys.{key_number}
 use Rattle.catalogue.specs.Entries.{entries_of, key_of_entry}
 use Rattle.catalogue.proofs.laws.section.Rows.{entries_length}
-use Rattle.catalogue.proofs.laws.section.Search.{Stretch, whole_stretch, halved, shorter}
+use Rattle.catalogue.proofs.laws.section.Search.{whole_stretch, halved, shorter}
 use Rattle.catalogue.proofs.section.place.Goals as goal
 
 pub loop-low-init : goal.loop-low-init

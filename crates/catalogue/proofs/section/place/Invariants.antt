@@ -1,13 +1,8 @@
-use borrow.Author.Rules.{rules}
-use native.Mathlib.Omega.{arith}
-use mathlib.Core.Path.{◌∙◌, ap}
-use Prim.Native.Nat.{ℕ, ◌+◌, ◌-◌, ◌/◌}
-use lib.Dec.{ltb}
+use Prim.Native.Nat.{◌-◌}
 use Rattle.catalogue.specs.Assoc.{below}
 use Rattle.catalogue.specs.Keys.{key_number}
 use Rattle.catalogue.specs.Entries.{entries_of, key_of_entry}
-use Rattle.catalogue.proofs.laws.section.Rows.{entries_length}
-use Rattle.catalogue.proofs.laws.section.Search.{Stretch, whole_stretch, halved, shorter}
+use Rattle.catalogue.proofs.laws.section.Search.{Stretch}
 use Rattle.catalogue.proofs.section.place.Given as goal
 
 -- The stretch between low and high has the place in it, and grows shorter.

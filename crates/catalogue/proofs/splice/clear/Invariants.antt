@@ -1,10 +1,6 @@
-use borrow.Author.Rules.{rules}
-use native.Mathlib.Omega.{arith}
-use lib.ListN.{length-replicate, get_or-replicate}
 use Prim.Native.Nat.{◌-◌}
 use Rattle.catalogue.specs.Splice.{zeros}
-use Rattle.catalogue.proofs.laws.section.Splicing.{Pasting, pasting_starts, pasting_turns, pasting_ends}
-use mathlib.Core.Path.{sym}
+use Rattle.catalogue.proofs.laws.section.Splicing.{Pasting}
 use Rattle.catalogue.proofs.splice.clear.Given as goal
 
 abbrev pub invariant-loop-j : goal.invariant-loop-j

@@ -1,8 +1,6 @@
-use borrow.Author.Rules.{rules}
 use native.Mathlib.Omega.{arith}
-use lib.ListN.{drop, length-drop}
-use Prim.Native.Nat.{◌-◌, ◌+◌}
-use Rattle.catalogue.proofs.laws.section.Splicing.{Pasting, pasting_starts, pasting_turns, pasting_ends, byte_ahead}
+use lib.ListN.{length-drop}
+use Rattle.catalogue.proofs.laws.section.Splicing.{pasting_starts, pasting_turns, pasting_ends, byte_ahead}
 use Rattle.catalogue.proofs.splice.close_gap.Goals as goal
 
 pub loop-j-init : goal.loop-j-init

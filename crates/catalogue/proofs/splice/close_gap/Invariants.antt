@@ -1,8 +1,6 @@
-use borrow.Author.Rules.{rules}
-use native.Mathlib.Omega.{arith}
-use lib.ListN.{drop, length-drop}
+use lib.ListN.{drop}
 use Prim.Native.Nat.{◌-◌, ◌+◌}
-use Rattle.catalogue.proofs.laws.section.Splicing.{Pasting, pasting_starts, pasting_turns, pasting_ends, byte_ahead}
+use Rattle.catalogue.proofs.laws.section.Splicing.{Pasting}
 use Rattle.catalogue.proofs.splice.close_gap.Given as goal
 
 abbrev pub invariant-loop-j : goal.invariant-loop-j

@@ -1,8 +1,6 @@
 use mathlib.Core.Path.{refl}
-use Prim.Native.Nat.{◌-◌}
 use native.Mathlib.Omega.{arith}
-use lib.ListN.{length}
-use Rattle.catalogue.proofs.laws.section.Splicing.{Pasting, pasting_starts, pasting_turns, pasting_ends}
+use Rattle.catalogue.proofs.laws.section.Splicing.{pasting_starts, pasting_turns, pasting_ends}
 use Rattle.catalogue.proofs.splice.copy_in.Goals as goal
 
 pub loop-j-init : goal.loop-j-init

@@ -1,8 +1,6 @@
-use mathlib.Core.Path.{refl}
 use Prim.Native.Nat.{◌-◌}
-use native.Mathlib.Omega.{arith}
 use lib.ListN.{length}
-use Rattle.catalogue.proofs.laws.section.Splicing.{Pasting, pasting_starts, pasting_turns, pasting_ends}
+use Rattle.catalogue.proofs.laws.section.Splicing.{Pasting}
 use Rattle.catalogue.proofs.splice.copy_in.Given as goal
 
 abbrev pub invariant-loop-j : goal.invariant-loop-j

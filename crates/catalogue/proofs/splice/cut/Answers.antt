@@ -1,4 +1,3 @@
-use borrow.Author.Rules.{rules}
 use Rattle.catalogue.specs.Splice.{cut_out}
 use Rattle.catalogue.proofs.splice.cut.Goals as goal
 

@@ -1,7 +1,7 @@
-use Prim.Native.Nat.{ℕ, ◌≤◌, ◌-◌, ◌+◌}
+use Prim.Native.Nat.{ℕ, ◌-◌, ◌+◌}
 use mathlib.Core.Path.{◌≡◌, refl, ◌∙◌, ap}
 use native.Mathlib.Omega.{arith}
-use lib.ListN.{length, length-set, set, get_or}
+use lib.ListN.{length-set, set, get_or}
 use mathlib.Core.List.{List}
 use Rattle.catalogue.specs.Splice.{opened}
 use Rattle.catalogue.proofs.laws.section.Splicing.{opened_start, opened_back}

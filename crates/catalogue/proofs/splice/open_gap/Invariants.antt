@@ -1,10 +1,7 @@
-use Prim.Native.Nat.{ℕ, ◌≤◌, ◌-◌, ◌+◌}
-use mathlib.Core.Path.{◌≡◌, refl, ◌∙◌, ap}
-use native.Mathlib.Omega.{arith}
-use lib.ListN.{length, length-set, set, get_or}
-use mathlib.Core.List.{List}
+use Prim.Native.Nat.{◌≤◌}
+use mathlib.Core.Path.{◌≡◌}
+use lib.ListN.{length}
 use Rattle.catalogue.specs.Splice.{opened}
-use Rattle.catalogue.proofs.laws.section.Splicing.{opened_start, opened_back}
 use Rattle.catalogue.proofs.splice.open_gap.Given as goal
 
 -- `shift::open_gap` meets its contract.

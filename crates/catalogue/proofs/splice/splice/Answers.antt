@@ -1,6 +1,5 @@
 use mathlib.Core.Path.{◌∙◌}
 use Rattle.catalogue.proofs.laws.section.Splicing.{filled}
-use borrow.Author.Rules.{rules}
 use Rattle.catalogue.proofs.splice.splice.Goals as goal
 
 pub returns : goal.returns

@@ -1,4 +1,3 @@
-use borrow.Author.Rules.{rules}
 use mathlib.Core.Path.{sym, ◌∙◌}
 use Rattle.catalogue.proofs.laws.room.Carry.{left, hold_asks, hold_room, note_able, note_room, no_link}
 use Rattle.catalogue.proofs.take.carry_out.Goals as goal

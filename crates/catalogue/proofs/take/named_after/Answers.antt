@@ -1,4 +1,3 @@
-use borrow.Author.Rules.{rules}
 use Rattle.catalogue.proofs.take.named_after.Goals as goal
 
 -- Deed by deed.

@@ -1,4 +1,3 @@
-use borrow.Author.Rules.{rules}
 use mathlib.Core.Path.{◌∙◌}
 use Rattle.catalogue.proofs.laws.room.Carry.{note_asks, note_put}
 use Rattle.catalogue.proofs.take.note.Goals as goal

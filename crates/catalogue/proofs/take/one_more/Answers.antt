@@ -1,5 +1,4 @@
 use native.Mathlib.Numerals.{add-one}
-use borrow.Author.Rules.{rules}
 use Rattle.catalogue.proofs.take.one_more.Goals as goal
 
 -- A pair that is in a section is named already.

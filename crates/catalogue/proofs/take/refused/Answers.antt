@@ -1,4 +1,3 @@
-use borrow.Author.Rules.{rules}
 use mathlib.Core.Path.{sym, ap}
 use Rattle.catalogue.specs.Findings.{refused_call}
 use Rattle.catalogue.proofs.take.refused.Goals as goal

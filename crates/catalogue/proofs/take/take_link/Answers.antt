@@ -1,13 +1,9 @@
-use borrow.Author.Rules.{rules}
 use native.Mathlib.Omega.{arith}
 use mathlib.Core.Path.{◌≡◌, refl, ◌∙◌, ap}
 use Prim.Native.Nat.{ℕ}
 use lib.ListN.{length}
 use Rattle.catalogue.specs.declared.section.Section.{Section}
-use Rattle.catalogue.specs.Line.{triple_key, link_key}
-use Rattle.catalogue.specs.Taking.{deed_of}
-use Rattle.catalogue.specs.Room.{contents}
-use Rattle.catalogue.specs.Entries.{Sought, entries_of}
+use Rattle.catalogue.specs.Entries.{entries_of}
 use Rattle.catalogue.proofs.laws.step.Link.{link_whole, entry_length}
 use Rattle.catalogue.proofs.laws.room.Found.{long_enough}
 use Rattle.catalogue.proofs.laws.room.Linked.{links_open, line_key, link_sought, link_place, link_decided}

@@ -1,9 +1,5 @@
-use borrow.Author.Rules.{rules}
 use native.Mathlib.Omega.{arith}
-use mathlib.Core.Path.{◌≡◌, ap}
-use Rattle.catalogue.specs.Line.{Acceptable}
-use Rattle.catalogue.specs.Taking.{deed_of}
-use Rattle.catalogue.specs.Room.{contents}
+use mathlib.Core.Path.{ap}
 use Prim.Native.Nat.{ℕ}
 use Rattle.catalogue.specs.Entries.{entries_of}
 use Rattle.catalogue.proofs.laws.step.Line.{whole}

@@ -1,10 +1,8 @@
-use borrow.Author.Rules.{rules}
 use native.Mathlib.Omega.{arith}
-use mathlib.Core.Path.{◌≡◌, refl, sym, ◌∙◌, ap}
+use mathlib.Core.Path.{refl, sym, ◌∙◌, ap}
 use lib.ListN.{get_or}
-use Rattle.catalogue.specs.Line.{kind}
 use Rattle.formats.proofs.laws.CubeThere.{was_refused}
-use Rattle.catalogue.specs.Findings.{notice_kind, notice_of, refused_call}
+use Rattle.catalogue.specs.Findings.{notice_of, refused_call}
 use Rattle.catalogue.proofs.laws.step.Line.{whole}
 use Rattle.catalogue.proofs.laws.room.Found.{notice_ok}
 use Rattle.catalogue.proofs.laws.room.Took.{there_link, there_kind, took_refused}

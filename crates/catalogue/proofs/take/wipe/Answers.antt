@@ -1,7 +1,6 @@
-use borrow.Author.Rules.{rules}
 use mathlib.Core.Path.{◌∙◌}
 use Rattle.catalogue.proofs.laws.room.Found.{long_enough}
-use Rattle.catalogue.proofs.laws.room.Carry.{Between, wipe_found, wipe_asks, between}
+use Rattle.catalogue.proofs.laws.room.Carry.{wipe_found, wipe_asks, between}
 use Rattle.catalogue.proofs.take.wipe.Goals as goal
 
 pub returns-in_default : goal.returns-in_default
