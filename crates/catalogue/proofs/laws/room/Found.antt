@@ -21,7 +21,7 @@ use Rattle.catalogue.specs.Taking.{covered, decide, limited, deed_of}
 use Rattle.catalogue.specs.Room.{contents}
 use Rattle.catalogue.specs.Ordered.{Ordered}
 use Rattle.catalogue.specs.Keys.{key_in}
-use Rattle.catalogue.specs.Entries.{entries_of, key_of_entry, entry_of, Inside, Sought, place_of}
+use Rattle.catalogue.specs.Entries.{entries_of, key_of_entry, entry_of, Inside, Sought, IsPlaceOf}
 use Rattle.catalogue.specs.Places.{end_of, held_in, deletions_in, links_in}
 use Rattle.catalogue.specs.Findings.{notice_kind, IsFound, Placed, Known}
 use Rattle.catalogue.proofs.laws.assoc.Below.{below_le}
@@ -62,7 +62,7 @@ unfolding deletion pair
 deletion_bytes l v h = sym (simp (first_two (drop 10 l) (simp length-drop (omega arith)), first_eight (drop 2 l) (simp length-drop (omega arith)), get_or-drop))
 
 -- a place that a search answers lies in the section
-pub sought_place : (f : List ℕ → ℕ) (k : ℕ) (xs : List (List ℕ)) (s : Seek) → Sought f k xs s → place_of s (length xs)
+pub sought_place : (f : List ℕ → ℕ) (k : ℕ) (xs : List (List ℕ)) (s : Seek) → Sought f k xs s → IsPlaceOf s (length xs)
 sought_place f k xs (Found i) h = h.1
 sought_place f k xs (Missing i) h = omega (arith, h.0, below_le f k xs)
 
@@ -107,9 +107,9 @@ module _ (r : List ℕ) (o : Ordered r) where
           deletions_inside = (deletion_open K.deletions_are).0;
           held_size = ap (λ (s : Section). s.size) K.held_is;
           deletion_size = ap (λ (s : Section). s.size) K.deletions_are;
-          held_place = subst (place_of f.in_held) n (sought_place key (key l) (contents r).held f.in_held K.in_held);
+          held_place = subst (IsPlaceOf f.in_held) n (sought_place key (key l) (contents r).held f.in_held K.in_held);
           deletion_place = elim K.in_deletions [
-            | inl s ↦ subst (place_of f.in_deletions) m (sought_place deletion_key (key l) (contents r).deletions f.in_deletions s)
+            | inl s ↦ subst (IsPlaceOf f.in_deletions) m (sought_place deletion_key (key l) (contents r).deletions f.in_deletions s)
             | inr u ↦ rw u.2 (omega arith)
           ];
         }
