@@ -15,14 +15,14 @@ use columns::bytes::same;
 
 // The outcome of reading a block: the count of rows, the comment count and the bytes used; or the number of a refusal, its column
 // and the number of its line.
-#[derive(Drop)]
+#[derive(Clone, Copy)]
 pub enum Block {
     Read(usize, usize, usize),
     Refused(u8, usize, usize),
 }
 
 // What a line after the header comes to: the counts of rows and comments with it, the block's end, or its refusal.
-#[derive(Drop)]
+#[derive(Clone, Copy)]
 pub enum Step {
     Counted(usize, usize),
     Closing,

@@ -5,14 +5,14 @@ ghost use Rattle.formats.specs.BlockReader.{line_at};
 use super::lines::line_end;
 
 // A reader of a lent block, at a place in it.
-#[derive(Drop)]
+#[derive(Clone, Copy)]
 pub struct BlockReader<'a> {
     pub block: &'a [u8],
     pub at: usize,
 }
 
 // A line: its start, its end, and the place after its newline.
-#[derive(Drop)]
+#[derive(Clone, Copy)]
 pub enum Line {
     Found(usize, usize, usize),
     End,

@@ -23,7 +23,7 @@ pub const MOST: usize = 65534;
 
 // A line of a block: its kind; the number, from 1, of the row that it is or that it belongs to; its end; and the place
 // after it.
-#[derive(Drop)]
+#[derive(Clone, Copy)]
 pub struct BlockLine {
     pub kind: u8,
     pub number: usize,

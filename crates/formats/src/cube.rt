@@ -57,7 +57,7 @@ pub const LINK: u8 = 4;
 
 // What reading a line gives: a record that is there, with its kind and the lengths of a link's type, address and text (of a
 // delete only its free text), or the number and column of a refusal.
-#[derive(Drop)]
+#[derive(Clone, Copy)]
 pub enum Read {
     There(u8, usize, usize, usize),
     Refused(u8, usize),

@@ -23,7 +23,7 @@ pub const CARD_R: u8 = 12;
 
 // A row format: its record's kind; its first row in the table and how many it has; the bytes of its line, the numbers
 // and the text bytes of its record.
-#[derive(Drop)]
+#[derive(Clone, Copy)]
 pub struct Format {
     pub kind: u8,
     pub first: usize,

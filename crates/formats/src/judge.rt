@@ -12,7 +12,7 @@ use columns::column::column_in;
 use columns::judge::cell_ok;
 
 // Whether columns are accepted, and a check sum where they are.
-#[derive(Drop)]
+#[derive(Clone, Copy)]
 pub struct Sealed {
     pub ok: bool,
     pub sum: u16,

@@ -18,7 +18,7 @@ use columns::Outcome;
 use columns::bytes::first_barred;
 
 // What a line's first letter says: the letter and the place of its kind, or the number of a refusal and its column.
-#[derive(Drop)]
+#[derive(Clone, Copy)]
 pub enum Lead {
     Kind(u8, usize),
     Refused(u8, usize),

@@ -1,4 +1,6 @@
 // Formats: CUBE messages, rows of file formats (the ISF phase and arrival lines in blocks, the Calnet cards in runs), and the bytes of their records.
+#![tactic(auto)]
+
 pub mod block;
 pub mod block_line;
 pub mod block_reader;
@@ -33,7 +35,7 @@ pub const OUT_OF_PLACE: u8 = 14;
 pub const NOT_CLOSED: u8 = 15;
 
 // The answer of a call that writes into a lent place: the number of bytes written, or the number of a refusal and its column.
-#[derive(Drop)]
+#[derive(Clone, Copy)]
 pub enum Reply {
     Done(usize),
     Refused(u8, usize),

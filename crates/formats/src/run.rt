@@ -13,14 +13,14 @@ use columns::Outcome;
 use columns::word::write_word;
 
 // The outcome of reading a run: the number of events; or the number of a refusal, its column and the number of its line.
-#[derive(Drop)]
+#[derive(Clone, Copy)]
 pub enum Run {
     Read(usize),
     Refused(u8, usize, usize),
 }
 
 // What a line comes to: its letter and its kind's rank, or its refusal.
-#[derive(Drop)]
+#[derive(Clone, Copy)]
 pub enum Step {
     Next(u8, u8),
     Refused(u8, usize),
