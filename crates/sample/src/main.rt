@@ -1,4 +1,6 @@
 // Reads and writes lines of a made-up format, and prints the outcomes: what a new table takes.
+#![tactic(auto)]
+
 ghost use Rattle.std.specs.Prelude.{◌≡◌, [], length, replicate, pos};
 ghost use Rattle.columns.specs.Reading.{read_columns, read_part};
 ghost use Rattle.columns.specs.Writing.{write_line};
@@ -10,7 +12,7 @@ use columns::column::{
     BLANK, CLOCK, DECIMAL, GROUP, INTEGER, LETTER, NO_BRACKETS, NOT_BLANK_FIRST, NOT_NEGATIVE,
     PLACES, REQUIRED, TEXT, WIDTH,
 };
-use libc::STDOUT_FILENO;
+use std::io;
 
 // The table of specs/Format.antt.
 const ROWS: [u32; 10] = [
@@ -90,112 +92,103 @@ fn write_sample(flags: &[u8; 6], values: &[i64; 6], text: &[u8; 10], out: &mut [
     )
 }
 
-fn say(s: &[u8]) {
-    io::write_all(STDOUT_FILENO, s);
+fn say<R: Print>(rt: &R, s: &[u8]) -> io::Result<()> {
+    rt.write_all(s)
 }
 
-fn say_outcome(outcome: Outcome) {
+fn say_outcome<R: Print>(rt: &R, outcome: Outcome) -> io::Result<()> {
     match outcome {
-        Outcome::Done => {
-            say(b"done\n");
-        }
-        Outcome::Refused(number, column) => {
-            say(b"refused ");
-            io::print_decimal(STDOUT_FILENO, number as u64);
-            say(b" ");
-            io::print_decimal(STDOUT_FILENO, column as u64);
-            say(b"\n");
-        }
+        Outcome::Done => println!(rt; "done"),
+        Outcome::Refused(number, column) => println!(rt; "refused {number} {column}"),
     }
 }
 
-fn say_number(flag: u8, v: i64) {
+fn say_number<R: Print>(rt: &R, flag: u8, v: i64) -> io::Result<()> {
     if flag == 0 {
-        say(b" -");
-        return;
+        return print!(rt; " -");
     }
-    say(b" ");
-    if v < 0 {
-        say(b"-");
-    }
-    io::print_decimal(STDOUT_FILENO, columns::written::magnitude_of(v));
+    print!(rt; " {v}")
 }
 
-fn say_numbers(flags: &[u8; 6], values: &[i64; 6]) {
-    say_number(flags[0], values[0]);
-    say_number(flags[1], values[1]);
-    say_number(flags[2], values[2]);
-    say_number(flags[3], values[3]);
-    say_number(flags[4], values[4]);
-    say_number(flags[5], values[5]);
+fn say_numbers<R: Print>(rt: &R, flags: &[u8; 6], values: &[i64; 6]) -> io::Result<()> {
+    for (flag, v) in flags.iter().zip(values) {
+        say_number(rt, *flag, *v)?;
+    }
+    Ok(())
 }
 
 // Reads a line; where it is good, writes its record again.
-fn there_and_back(line: &[u8; 36]) {
+fn there_and_back<R: Print>(rt: &R, line: &[u8; 36]) -> io::Result<()> {
     let r = read_sample(line);
-    let outcome = r.outcome;
-    say_outcome(outcome);
-    let Outcome::Done = outcome else {
-        return;
+    say_outcome(rt, r.outcome)?;
+    let Outcome::Done = r.outcome else {
+        return Ok(());
     };
-    let flags = r.flags;
-    let values = r.values;
-    let text = r.text;
-    say(b"  numbers");
-    say_numbers(&flags, &values);
-    say(b" text [");
-    say(&text);
-    say(b"]\n");
-    let mut out = [46u8; 40];
-    say(b"  written ");
-    say_outcome(write_sample(&flags, &values, &text, &mut out));
-    say(b"  [");
-    say(&out);
-    say(b"]\n");
+    print!(rt; "  numbers")?;
+    say_numbers(rt, &r.flags, &r.values)?;
+    print!(rt; " text [")?;
+    say(rt, &r.text)?;
+    println!(rt; "]")?;
+    print!(rt; "  written ")?;
+    write_only(rt, &r.flags, &r.values, &r.text)
 }
 
 // Writes a record into a place of 40 bytes and shows what the place then holds.
-fn write_only(flags: &[u8; 6], values: &[i64; 6], text: &[u8; 10]) {
+fn write_only<R: Print>(
+    rt: &R,
+    flags: &[u8; 6],
+    values: &[i64; 6],
+    text: &[u8; 10],
+) -> io::Result<()> {
     let mut out = [46u8; 40];
-    say_outcome(write_sample(flags, values, text, &mut out));
-    say(b"  [");
-    say(&out);
-    say(b"]\n");
+    say_outcome(rt, write_sample(flags, values, text, &mut out))?;
+    print!(rt; "  [")?;
+    say(rt, &out)?;
+    println!(rt; "]")
 }
 
-fn read_some() {
-    there_and_back(b"ABCDE -042   2.5T<xyz07:05:09.050 12");
-    there_and_back(b"Q     1999      _                   ");
-    there_and_back(b"Q     1999  -0.0_ [ ]-0:-0:-0.000-00");
-    there_and_back(b"ABCDE/-042   2.5T<xyz07:05:09.050 12");
-    there_and_back(b" BCDE -042   2.5T<xyz07:05:09.050 12");
-    there_and_back(b"ABCDE        2.5T<xyz07:05:09.050 12");
-    there_and_back(b"ABCDE -042   2,5T<xyz07:05:09.050 12");
-    there_and_back(b"ABCDE -042 400.0T<xyz07:05:09.050 12");
-    there_and_back(b"ABCDE -042   2.5X<xyz07:05:09.050 12");
-    there_and_back(b"ABCDE -042   2.5T<xyz24:xx:09.050 12");
-    there_and_back(b"ABCDE -042   2.5T<xyz24:05:09.050 12");
+fn read_some<R: Print>(rt: &R) -> io::Result<()> {
+    there_and_back(rt, b"ABCDE -042   2.5T<xyz07:05:09.050 12")?;
+    there_and_back(rt, b"Q     1999      _                   ")?;
+    there_and_back(rt, b"Q     1999  -0.0_ [ ]-0:-0:-0.000-00")?;
+    there_and_back(rt, b"ABCDE/-042   2.5T<xyz07:05:09.050 12")?;
+    there_and_back(rt, b" BCDE -042   2.5T<xyz07:05:09.050 12")?;
+    there_and_back(rt, b"ABCDE        2.5T<xyz07:05:09.050 12")?;
+    there_and_back(rt, b"ABCDE -042   2,5T<xyz07:05:09.050 12")?;
+    there_and_back(rt, b"ABCDE -042 400.0T<xyz07:05:09.050 12")?;
+    there_and_back(rt, b"ABCDE -042   2.5X<xyz07:05:09.050 12")?;
+    there_and_back(rt, b"ABCDE -042   2.5T<xyz24:xx:09.050 12")?;
+    there_and_back(rt, b"ABCDE -042   2.5T<xyz24:05:09.050 12")
 }
 
-fn write_some() {
+fn write_some<R: Print>(rt: &R) -> io::Result<()> {
     let all = [1u8; 6];
-    write_only(&all, &[10000, 25, 7, 5, 9050, 12], b"ABCDET<xyz");
-    write_only(&all, &[7000, 25, 7, 5, 9050, 12], b"ABCDET<xyz");
-    write_only(&all, &[-42, -5, 7, 5, 9050, 12], b"ABCDET<xyz");
-    write_only(&all, &[-42, 25, 7, 5, 9050, 12], b"AB]DET<xyz");
-    write_only(&all, &[-42, 25, 7, 5, 9050, 12], b"ABCDET<[y]");
-    write_only(&all, &[-42, 25, 7, 5, 60000, 12], b"ABCDET<xyz");
+    write_only(rt, &all, &[10000, 25, 7, 5, 9050, 12], b"ABCDET<xyz")?;
+    write_only(rt, &all, &[7000, 25, 7, 5, 9050, 12], b"ABCDET<xyz")?;
+    write_only(rt, &all, &[-42, -5, 7, 5, 9050, 12], b"ABCDET<xyz")?;
+    write_only(rt, &all, &[-42, 25, 7, 5, 9050, 12], b"AB]DET<xyz")?;
+    write_only(rt, &all, &[-42, 25, 7, 5, 9050, 12], b"ABCDET<[y]")?;
+    write_only(rt, &all, &[-42, 25, 7, 5, 60000, 12], b"ABCDET<xyz")?;
     write_only(
+        rt,
         &[1, 1, 1, 0, 1, 1],
         &[-42, 25, 7, 0, 9050, 12],
         b"ABCDET<xyz",
-    );
-    write_only(&[0, 1, 1, 1, 1, 1], &[0, 25, 7, 5, 9050, 12], b"ABCDET<xyz");
+    )?;
+    write_only(
+        rt,
+        &[0, 1, 1, 1, 1, 1],
+        &[0, 25, 7, 5, 9050, 12],
+        b"ABCDET<xyz",
+    )?;
     let mut short = [46u8; 35];
-    say_outcome(write_sample(&all, &[-42, 25, 7, 5, 9050, 12], b"ABCDET<xyz", &mut short));
+    say_outcome(
+        rt,
+        write_sample(&all, &[-42, 25, 7, 5, 9050, 12], b"ABCDET<xyz", &mut short),
+    )
 }
 
-fn main() {
-    read_some();
-    write_some();
+fn main(rt: HostRuntime) -> io::Result<()> {
+    read_some(&rt)?;
+    write_some(&rt)
 }

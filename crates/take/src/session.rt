@@ -16,7 +16,7 @@ pub const LINE: usize = 1024;
 
 // How far the program is: the place in the chunk, the bytes kept of a line that is not ended, the lines taken, the pairs named in
 // the room, the bytes gathered in the output, and whether reading or writing has failed.
-#[derive(Drop)]
+#[derive(Clone, Copy)]
 pub struct Progress {
     pub from: usize,
     pub len: usize,
@@ -27,7 +27,7 @@ pub struct Progress {
 }
 
 // An answer put: the place after it, and the pairs named in the room then.
-#[derive(Drop)]
+#[derive(Clone, Copy)]
 pub struct Said {
     pub at: usize,
     pub named: usize,

@@ -7,13 +7,19 @@ ghost use Rattle.take.specs.Progress.{most_lines, Sound, Taken, Passed, Finished
 
 use super::session::{Progress, begin, end_line, take_next};
 use super::text::put_catalogue;
-use libc::{STDERR_FILENO, STDIN_FILENO, STDOUT_FILENO};
+use std::io;
+use std::io::Read;
 
 // The most gathered bytes behind which any answer, of at most 63 bytes, still fits.
 const FULL: usize = 65473;
 
 // Nothing says that the input ends, and a loop has to: the reads are counted down from 2^47, more than any run makes.
 const READS: u64 = 140737488355328;
+
+// Says on standard error what failed, and why. Where that fails too, nothing is left to say it on.
+fn complain<R: Eprint>(rt: &R, what: &str, error: io::Error) {
+    let _ = eprintln!(rt; "take: {what}: {error}");
+}
 
 // The same progress with nothing gathered.
 fn emptied(p: Progress, failed: bool) -> Progress
@@ -30,7 +36,7 @@ fn emptied(p: Progress, failed: bool) -> Progress
 }
 
 // Writes what is gathered, unless something has failed before.
-fn flush(out: &[u8], p: Progress) -> Progress
+fn flush<R: Print + Eprint>(rt: &R, out: &[u8], p: Progress) -> Progress
     requires { p.at ≤ length out.now }
     ensures { Emptied p result × (result.at ≡ 0) }
 {
@@ -38,26 +44,29 @@ fn flush(out: &[u8], p: Progress) -> Progress
     if p.failed {
         return emptied(p, true);
     }
-    if io::write_all(STDOUT_FILENO, &out[0..at]) {
-        return emptied(p, false);
+    match rt.write_all(&out[0..at]) {
+        Ok(()) => emptied(p, false),
+        Err(error) => {
+            complain(rt, "standard output", error);
+            emptied(p, true)
+        }
     }
-    os::fail(b"take: standard output");
-    emptied(p, true)
 }
 
 // Writes what is gathered where a whole answer may not fit behind it.
-fn make_space(out: &[u8], p: Progress) -> Progress
+fn make_space<R: Print + Eprint>(rt: &R, out: &[u8], p: Progress) -> Progress
     requires { p.at ≤ length out.now }
     ensures { Emptied p result × (result.at + 63 ≤ 65536) }
 {
     if p.at <= FULL {
         return p;
     }
-    flush(out, p)
+    flush(rt, out, p)
 }
 
 // Takes the bytes of a chunk from the place that was reached.
-fn take_chunk(
+fn take_chunk<R: Print + Eprint>(
+    rt: &R,
     room: &mut [u8],
     line: &mut [u8],
     out: &mut [u8],
@@ -69,61 +78,61 @@ fn take_chunk(
 {
     let mut p = first;
     while p.from < chunk.len() {
-        p = take_next(room, line, out, chunk, make_space(out, p));
+        p = take_next(room, line, out, chunk, make_space(rt, out, p));
     }
     p
 }
 
 // What a read brings: bytes at the start of the chunk, the end of the input, or a failure.
-#[derive(Drop)]
+#[derive(Clone, Copy)]
 pub enum Input {
     Bytes(usize),
     End,
     Failed,
 }
 
-fn read_some(chunk: &mut [u8]) -> Input
+fn read_some<R: Eprint, I: Read>(rt: &R, input: &mut I, chunk: &mut [u8]) -> Input
     ensures { brought_by result ≤ length chunk.new }
 {
-    let got = libc::read(STDIN_FILENO, chunk);
-    if got < 0 {
-        os::fail(b"take: standard input");
-        return Input::Failed;
+    match input.read(chunk) {
+        Ok(0) => Input::End,
+        Ok(n) => Input::Bytes(n),
+        Err(error) => {
+            complain(rt, "standard input", error);
+            Input::Failed
+        }
     }
-    let n = io::count(got, chunk);
-    if n == 0 {
-        return Input::End;
-    }
-    Input::Bytes(n)
 }
 
 // Writes what is gathered, and nothing after it.
-fn stop(out: &[u8], p: Progress) -> Progress
+fn stop<R: Print + Eprint>(rt: &R, out: &[u8], p: Progress) -> Progress
     requires { p.at ≤ length out.now }
     ensures { Emptied p result × (result.at ≡ 0) }
 {
-    let q = flush(out, p);
+    let q = flush(rt, out, p);
     emptied(q, true)
 }
 
 // More reads than are counted.
-fn too_long(out: &[u8], p: Progress) -> Progress
+fn too_long<R: Print + Eprint>(rt: &R, out: &[u8], p: Progress) -> Progress
     requires { p.at ≤ length out.now }
     ensures { Emptied p result × (result.at ≡ 0) }
 {
-    io::write_all(STDERR_FILENO, b"take: standard input: too long\n");
-    stop(out, p)
+    let _ = eprintln!(rt; "take: standard input: too long");
+    stop(rt, out, p)
 }
 
 // How many bytes a read brought, and the progress after they are taken.
-#[derive(Drop)]
+#[derive(Clone, Copy)]
 pub struct Turn {
     pub count: usize,
     pub progress: Progress,
 }
 
 // Reads once, and takes what came.
-fn read_next(
+fn read_next<R: Print + Eprint, I: Read>(
+    rt: &R,
+    input: &mut I,
     room: &mut [u8],
     line: &mut [u8],
     chunk: &mut [u8],
@@ -133,13 +142,13 @@ fn read_next(
     requires { Sound room.old line.old out.old p × (length chunk.old ≡ 65536) × (p.number + 65536 ≤ most_lines) }
     ensures { Taken room.old line.old p (take result.count chunk.new) room.new line.new out.new result.progress × (result.progress.number ≤ p.number + 65536) }
 {
-    match read_some(chunk) {
+    match read_some(rt, input, chunk) {
         Input::End => Turn {
             count: 0,
             progress: p,
         },
         Input::Failed => {
-            let progress = stop(out, p);
+            let progress = stop(rt, out, p);
             Turn { count: 0, progress }
         }
         Input::Bytes(n) => {
@@ -151,14 +160,16 @@ fn read_next(
                 at: p.at,
                 failed: p.failed,
             };
-            let progress = take_chunk(room, line, out, &chunk[0..n], first);
+            let progress = take_chunk(rt, room, line, out, &chunk[0..n], first);
             Turn { count: n, progress }
         }
     }
 }
 
 // Reads to the end of the input, or until something fails.
-fn read_all(
+fn read_all<R: Print + Eprint, I: Read>(
+    rt: &R,
+    input: &mut I,
     room: &mut [u8],
     line: &mut [u8],
     chunk: &mut [u8],
@@ -171,7 +182,7 @@ fn read_all(
     let mut p = first;
     let mut reads = READS;
     while 0 < reads {
-        let turn = read_next(room, line, chunk, out, p);
+        let turn = read_next(rt, input, room, line, chunk, out, p);
         p = turn.progress;
         if turn.count == 0 {
             return p;
@@ -181,18 +192,25 @@ fn read_all(
         }
         reads -= 1;
     }
-    too_long(out, p)
+    too_long(rt, out, p)
 }
 
 // Ends the last line, and prints the catalogue; answers how many bytes that is.
-fn finish(room: &mut [u8], line: &[u8], out: &mut [u8], p: Progress) -> usize
+fn finish<R: Print + Eprint>(
+    rt: &R,
+    room: &mut [u8],
+    line: &[u8],
+    out: &mut [u8],
+    p: Progress,
+) -> usize
     requires { Sound room.old line.now out.old p × (p.number ≤ most_lines) }
     ensures { Finished room.old line.now p room.new out.new result }
 {
-    let q = end_line(room, line, out, make_space(out, p));
-    let r = flush(out, q);
+    let q = end_line(room, line, out, make_space(rt, out, p));
+    let r = flush(rt, out, q);
     let at = put_catalogue(out, room);
     flush(
+        rt,
         out,
         Progress {
             from: r.from,
@@ -208,14 +226,21 @@ fn finish(room: &mut [u8], line: &[u8], out: &mut [u8], p: Progress) -> usize
 
 // The whole run: the heading, each line's answer, the catalogue. Where reading or writing fails, standard error says so, and the
 // catalogue is not printed.
-pub fn run(room: &mut [u8], line: &mut [u8], chunk: &mut [u8], out: &mut [u8])
+pub fn run<R: io::Input + Print + Eprint>(
+    rt: &R,
+    room: &mut [u8],
+    line: &mut [u8],
+    chunk: &mut [u8],
+    out: &mut [u8],
+)
     requires { Ordered room.old × (named (contents room.old) ≡ 0) × (length line.old ≡ 1024) × (length chunk.old ≡ 65536) × (length out.old ≡ 65536) }
     ensures { Ordered room.new }
 {
     let first = begin(out);
-    let last = read_all(room, line, chunk, out, first);
+    let mut input = rt.reader();
+    let last = read_all(rt, &mut input, room, line, chunk, out, first);
     if last.failed {
         return;
     }
-    finish(room, line, out, last);
+    finish(rt, room, line, out, last);
 }
