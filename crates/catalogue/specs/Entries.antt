@@ -32,9 +32,9 @@ entry_of xs (Found i) = some (get_or xs i [])
 entry_of xs (Missing i) = none
 
 -- its place is one of the entries, or one where an entry can stand
-abbrev pub place_of : Seek → ℕ → Type 0
-place_of (Found i) n = i < n
-place_of (Missing i) n = i ≤ n
+abbrev pub IsPlaceOf : Seek → ℕ → Type 0
+IsPlaceOf (Found i) n = i < n
+IsPlaceOf (Missing i) n = i ≤ n
 
 -- a new entry needs room
 abbrev pub RoomFor : Seek → ℕ → ℕ → Type 0

@@ -18,7 +18,7 @@ use Rattle.catalogue.specs.Line.{Kind, event, delete, blank, kind, key, deletion
 use Rattle.catalogue.specs.Catalogue.{named}
 use Rattle.catalogue.specs.Room.{contents, call_of, room_after}
 use Rattle.catalogue.specs.Ordered.{Ordered}
-use Rattle.catalogue.specs.Entries.{Inside, Sought, place_of}
+use Rattle.catalogue.specs.Entries.{Inside, Sought, IsPlaceOf}
 use Rattle.catalogue.specs.Places.{held_in, deletions_in}
 
 -- the kind of line that a notice is
@@ -46,15 +46,15 @@ pub record Placed (r : List ℕ) (f : Findings) : Type 0 where
   pub deletions_inside : Inside f.deletions r
   pub held_size : f.held.size ≡ 80
   pub deletion_size : f.deletions.size ≡ 11
-  pub held_place : place_of f.in_held f.held.count
-  pub deletion_place : place_of f.in_deletions f.deletions.count
+  pub held_place : IsPlaceOf f.in_held f.held.count
+  pub deletion_place : IsPlaceOf f.in_deletions f.deletions.count
 
 -- held lines and deletions of the room, and where the line's pair stands in each; for an event whose pair is held, the deletions were not searched
 pub record Known (r l : List ℕ) (f : Findings) : Type 0 where
   pub held_is : f.held ≡ held_in r
   pub deletions_are : f.deletions ≡ deletions_in r
   pub in_held : Sought key (key l) (contents r).held f.in_held
-  pub in_deletions_lem : Sought deletion_key (key l) (contents r).deletions f.in_deletions ⊎ ((kind l ≡ event) × IsFound f.in_held × (f.in_deletions ≡ Missing 0))
+  pub in_deletions : Sought deletion_key (key l) (contents r).deletions f.in_deletions ⊎ ((kind l ≡ event) × IsFound f.in_held × (f.in_deletions ≡ Missing 0))
 
 -- a deletion of the line's pair can be put at its place among the deletions
 pub record Notable (r l : List ℕ) (v : ℕ) (s : Seek) : Type 0 where

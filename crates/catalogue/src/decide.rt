@@ -3,7 +3,7 @@ ghost use Rattle.std.specs.Prelude.{◌≡◌, true, List, ℕ, ◌≤◌, lengt
 ghost use Rattle.catalogue.specs.Line.{kind};
 ghost use Rattle.catalogue.specs.Taking.{covered as covered_by, over_held, over_deleted, over_blank, decide as decide_by, declined as declined_by, limited as limited_to};
 ghost use Rattle.catalogue.specs.Ordered.{Ordered};
-ghost use Rattle.catalogue.specs.Entries.{entries_of, entry_of, Inside, place_of};
+ghost use Rattle.catalogue.specs.Entries.{entries_of, entry_of, Inside, IsPlaceOf};
 ghost use Rattle.catalogue.specs.Findings.{notice_kind, IsFound, Placed, Known};
 
 use super::PAIRS;
@@ -14,7 +14,7 @@ use columns::bytes::same;
 
 // What a line does: nothing, with an answer; the line is held, with an answer; its pair's deletion becomes a version; its held line goes
 // besides; the line is stored among the links, with an answer.
-#[derive(Drop)]
+#[derive(Clone, Copy)]
 pub enum Deed {
     Leave(u8),
     Hold(u8),
@@ -24,7 +24,7 @@ pub enum Deed {
 }
 
 // An acceptable line about a pair: an event, a delete with a version, a delete with a blank one.
-#[derive(Drop)]
+#[derive(Clone, Copy)]
 pub enum Notice {
     Event,
     Delete,
@@ -32,7 +32,7 @@ pub enum Notice {
 }
 
 // The sections of a room, and where a line's pair stands in each.
-#[derive(Drop)]
+#[derive(Clone, Copy)]
 pub struct Findings {
     pub held: Section,
     pub deletions: Section,
@@ -82,7 +82,7 @@ pub fn look_both(room: &[u8], notice: Notice, line: &[u8]) -> Findings
 
 // Whether an entry of the pair's deletions covers a version.
 fn covered(room: &[u8], of: Section, seek: Seek, v: u8) -> bool
-    requires { Inside of room.now × (of.size ≡ 11) × place_of seek of.count }
+    requires { Inside of room.now × (of.size ≡ 11) × IsPlaceOf seek of.count }
     ensures { result ≡ covered_by (entry_of (entries_of of room.now) seek) v }
 {
     match seek {
@@ -93,7 +93,7 @@ fn covered(room: &[u8], of: Section, seek: Seek, v: u8) -> bool
 
 // An event that no deletion covers.
 fn over_held(room: &[u8], of: Section, seek: Seek, line: &[u8]) -> Deed
-    requires { Inside of room.now × (of.size ≡ 80) × place_of seek of.count × (13 ≤ length line.now) }
+    requires { Inside of room.now × (of.size ≡ 80) × IsPlaceOf seek of.count × (13 ≤ length line.now) }
     ensures { result ≡ over_held line.now (entry_of (entries_of of room.now) seek) }
 {
     match seek {
@@ -114,7 +114,7 @@ fn over_held(room: &[u8], of: Section, seek: Seek, line: &[u8]) -> Deed
 
 // A delete of a version that no deletion covers.
 fn over_deleted(room: &[u8], of: Section, seek: Seek, v: u8) -> Deed
-    requires { Inside of room.now × (of.size ≡ 80) × place_of seek of.count }
+    requires { Inside of room.now × (of.size ≡ 80) × IsPlaceOf seek of.count }
     ensures { result ≡ over_deleted v (entry_of (entries_of of room.now) seek) }
 {
     match seek {
@@ -130,7 +130,7 @@ fn over_deleted(room: &[u8], of: Section, seek: Seek, v: u8) -> Deed
 
 // A delete with a blank version.
 fn over_blank(room: &[u8], of: Section, seek: Seek) -> Deed
-    requires { Inside of room.now × (of.size ≡ 80) × place_of seek of.count }
+    requires { Inside of room.now × (of.size ≡ 80) × IsPlaceOf seek of.count }
     ensures { result ≡ over_blank (entry_of (entries_of of room.now) seek) }
 {
     match seek {

@@ -9,14 +9,14 @@ use super::order::take_line;
 const LAST_REFUSAL: u8 = 19;
 
 // How many lines were taken into a room, and how many of them were refused.
-#[derive(Drop)]
+#[derive(Clone, Copy)]
 pub struct Tally {
     pub lines: usize,
     pub refused: usize,
 }
 
 // What two desks count.
-#[derive(Drop)]
+#[derive(Clone, Copy)]
 pub struct Tallies {
     pub first: Tally,
     pub second: Tally,

@@ -6,7 +6,7 @@ ghost use Rattle.catalogue.specs.Keys.{two, eight, key_in, key_number};
 const BLANK: u8 = 32;
 
 // The words of a key: source, identifier, and the 16 bytes of a type, which are zero in a pair's key.
-#[derive(Drop)]
+#[derive(Clone, Copy)]
 pub struct Key {
     pub source: u64,
     pub identifier: u64,

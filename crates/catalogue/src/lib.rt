@@ -1,4 +1,6 @@
 // The catalogue: one room of held E lines, deletions and links.
+#![tactic(auto)]
+
 pub mod decide;
 pub mod desk;
 pub mod key;
@@ -50,21 +52,21 @@ pub const HELD: u8 = 27;
 pub const NOT_HELD: u8 = 28;
 
 // What a call answers: a number, and the column of a refused line.
-#[derive(Drop)]
+#[derive(Clone, Copy)]
 pub struct Call {
     pub number: u8,
     pub column: usize,
 }
 
 // What a look-up answers: a number, and the place of a held line.
-#[derive(Drop)]
+#[derive(Clone, Copy)]
 pub struct Looked {
     pub number: u8,
     pub place: usize,
 }
 
 // What a look-up by halving answers: a number, the place of a held line, and how many entries it examined.
-#[derive(Drop)]
+#[derive(Clone, Copy)]
 pub struct Searched {
     pub number: u8,
     pub place: usize,

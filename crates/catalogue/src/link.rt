@@ -4,7 +4,7 @@ ghost use Rattle.catalogue.specs.Line.{link, kind, triple_key, link_entry, link_
 ghost use Rattle.catalogue.specs.Taking.{over_link, limited_link, deed_of};
 ghost use Rattle.catalogue.specs.Room.{contents, room_after};
 ghost use Rattle.catalogue.specs.Ordered.{Ordered};
-ghost use Rattle.catalogue.specs.Entries.{entries_of, entry_of, Inside, place_of, Sought};
+ghost use Rattle.catalogue.specs.Entries.{entries_of, entry_of, Inside, IsPlaceOf, Sought};
 ghost use Rattle.catalogue.specs.Places.{links_in};
 
 use super::LINKS;
@@ -34,7 +34,7 @@ pub fn link_entry(line: &[u8]) -> [u8; 256]
 
 // What a link does, by what is found of its triple; `entry` has its bytes.
 pub fn over_link(room: &[u8], of: Section, seek: Seek, entry: &[u8]) -> Deed
-    requires { Inside of room.now × (of.size ≡ 256) × place_of seek of.count × (length entry.now ≡ 256) }
+    requires { Inside of room.now × (of.size ≡ 256) × IsPlaceOf seek of.count × (length entry.now ≡ 256) }
     ensures { result ≡ over_link entry.now (entry_of (entries_of of room.now) seek) }
 {
     match seek {

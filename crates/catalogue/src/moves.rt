@@ -1,6 +1,6 @@
 // An entry put into a section of a room, or taken out of it.
 ghost use Rattle.std.specs.Prelude.{◌≡◌, ◌+◌, ◌≤◌, ◌<◌, length};
-ghost use Rattle.catalogue.specs.Entries.{Inside, place_of, RoomFor};
+ghost use Rattle.catalogue.specs.Entries.{Inside, IsPlaceOf, RoomFor};
 ghost use Rattle.catalogue.specs.Places.{end_of};
 ghost use Rattle.catalogue.specs.Moves.{put_in, taken_out};
 
@@ -9,7 +9,7 @@ use super::splice::{copy_in, cut, set_count, splice};
 
 // Puts an entry where a search says: over the one that has its key, or before the next one. The sections end at `used`.
 pub fn put(room: &mut [u8], of: Section, used: usize, seek: Seek, entry: &[u8])
-    requires { Inside of room.old × (end_of of ≤ used) × RoomFor seek (used + length entry.now) (length room.old) × (of.count < 65535) × (length entry.now ≡ of.size) × place_of seek of.count }
+    requires { Inside of room.old × (end_of of ≤ used) × RoomFor seek (used + length entry.now) (length room.old) × (of.count < 65535) × (length entry.now ≡ of.size) × IsPlaceOf seek of.count }
     ensures { room.new ≡ put_in room.old of used seek entry.now }
 {
     match seek {

@@ -10,7 +10,7 @@ use super::key::{Key, before, equal, key_at};
 
 // Where a section's count stands, how many entries it has, the bytes of an entry, where an entry has its source and identifier, and
 // whether its key has a type besides.
-#[derive(Drop)]
+#[derive(Clone, Copy)]
 pub struct Section {
     pub at: usize,
     pub count: usize,
@@ -21,7 +21,7 @@ pub struct Section {
 }
 
 // What a search for a key finds: its place, or the place where it would stand.
-#[derive(Drop)]
+#[derive(Clone, Copy)]
 pub enum Seek {
     Found(usize),
     Missing(usize),

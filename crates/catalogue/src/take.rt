@@ -20,7 +20,7 @@ use super::section::{Section, Seek, look};
 use formats::cube::{EVENT, LINK, Read, read_line};
 
 // What a line taken into a room in order answers, and how many pairs are named after it.
-#[derive(Drop)]
+#[derive(Clone, Copy)]
 pub struct Receipt {
     pub call: Call,
     pub named: usize,

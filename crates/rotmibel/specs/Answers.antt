@@ -28,8 +28,8 @@ abbrev pub number_in : Reply → ℕ
 number_in r = parts (reply_number r) (reply_column r) (reply_length r)
 
 -- a reply whose length and column fit their parts
-abbrev pub small : Reply → Type 0
-small r = (reply_length r < 1099511627776) × (reply_column r < 65536)
+abbrev pub IsSmall : Reply → Type 0
+IsSmall r = (reply_length r < 1099511627776) × (reply_column r < 65536)
 
 -- what a call returns, and the lent bytes: what was written over the first of them, or nothing changed
 pub record Answered (a : Answer (List ℕ)) (r : ℕ) (from to : List ℕ) : Type 0 where

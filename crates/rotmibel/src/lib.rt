@@ -1,4 +1,6 @@
 // The library as C sees it: numbers and byte slices (a pointer and a length). include/rotmibel.h documents each call.
+#![tactic(auto)]
+
 ghost use Rattle.std.specs.Prelude.{◌≡◌, ◌<◌, length};
 ghost use Rattle.formats.specs.CubeRecord.{read_into, write_from};
 ghost use Rattle.formats.specs.Row.{read_row_into, write_row_from};
@@ -11,7 +13,7 @@ ghost use Rattle.formats.specs.RunWriting.{lettered_call};
 ghost use Rattle.catalogue.specs.Room.{call_of, room_after, order_of};
 ghost use Rattle.catalogue.specs.LookUp.{look_up};
 ghost use Rattle.catalogue.specs.QuickLookUp.{quick_look_up};
-ghost use Rattle.rotmibel.specs.Answers.{parts, number_in, small, looked_number, searched_number, block_answer, line_number, line_in, IsSmallLine, met_line, place_in, HasLowColumn, Answered, AnsweredFrom, AnsweredRun, met_card};
+ghost use Rattle.rotmibel.specs.Answers.{parts, number_in, IsSmall, looked_number, searched_number, block_answer, line_number, line_in, IsSmallLine, met_line, place_in, HasLowColumn, Answered, AnsweredFrom, AnsweredRun, met_card};
 
 use catalogue::look_up::look_up;
 use catalogue::order::{check_order, take_line};
@@ -36,7 +38,7 @@ fn parts_of(answer: u8, column: usize, len: usize) -> u64
 
 // A reply as one number.
 fn number_of(r: Reply) -> u64
-    requires { small r }
+    requires { IsSmall r }
     ensures { result ≡ number_in r }
 {
     match r {

@@ -17,7 +17,7 @@ use Rattle.formats.proofs.laws.BlockBounds.{Small, SmallRead, SmallLine, first_s
 use Rattle.formats.specs.BlockWalk.{first_line, next_line}
 use Rattle.formats.specs.declared.block_walk.BlockLine.{BlockLine}
 use Rattle.formats.proofs.laws.CubeRecordBack.{size_of}
-use Rattle.rotmibel.specs.Answers.{number_in, small, Answered, place_in, HasLowColumn, AnsweredFrom, line_number, line_in, IsSmallLine, met_by, met_line, run_answer, AnsweredRun, met_card}
+use Rattle.rotmibel.specs.Answers.{number_in, IsSmall, Answered, place_in, HasLowColumn, AnsweredFrom, line_number, line_in, IsSmallLine, met_by, met_line, run_answer, AnsweredRun, met_card}
 use Rattle.formats.specs.Cards.{cards}
 use Rattle.formats.specs.Run.{RunRead}
 use Rattle.formats.specs.RunWalk.{first_told, next_told}
@@ -30,10 +30,10 @@ pub answered : {a : Answer (List ℕ)} {r : Reply} {from to : List ℕ} (n : ℕ
 answered n e w = record { answer = e ∙ ap number_in w.answer; bytes = w.bytes }
 
 -- a reply is small where the answer's bytes and column are few
-pub few : {a : Answer (List ℕ)} {r : Reply} {from to : List ℕ} → Replied a r from to → size_of a < 1099511627776 → column_of a < 65536 → small r
+pub few : {a : Answer (List ℕ)} {r : Reply} {from to : List ℕ} → Replied a r from to → size_of a < 1099511627776 → column_of a < 65536 → IsSmall r
 few {a} {r} {from} {to} w h k = rw w.answer (by_answer a h k)
   where
-    by_answer : (b : Answer (List ℕ)) → size_of b < 1099511627776 → column_of b < 65536 → small (reply_of b)
+    by_answer : (b : Answer (List ℕ)) → size_of b < 1099511627776 → column_of b < 65536 → IsSmall (reply_of b)
     by_answer (ok ys) p q = (p, q)
     by_answer (refusal m j) p q = (p, q)
 

@@ -13,6 +13,7 @@ Distinct (x ∷ xs) = (Memᴰ x xs → ⊥) × Distinct xs
 
 -- the list without the place of a membership
 without : {x : ℕ} (ys : List ℕ) → Memᴰ x ys → (zs : List ℕ) × (length ys ≡ suc (length zs)) × ((z : ℕ) → (z ≡ x → ⊥) → Memᴰ z ys → Memᴰ z zs)
+without [] m = elim m [ ]
 without (y ∷ ys) (Memᴰ.head e) = (ys, refl, λ z n m. elim (Memᴰ.cases_cons m) [ inl p ↦ absurd (n (p ∙ sym e)) | inr t ↦ t ])
 without (y ∷ ys) (Memᴰ.tail m) =
     let r = without ys m in

@@ -51,7 +51,7 @@ last_is ls =
       deletion_ascends = F.deletion_ascends;
       link_ascends = F.link_ascends;
       held_is =
-          λ (k : ℕ). rw (F.held_Found k) (held_from ls k (last_highest event k ls) (last_highest delete k ls) (highest_is ls event k) (highest_is ls delete k));
+          λ (k : ℕ). rw (F.held_found k) (held_from ls k (last_highest event k ls) (last_highest delete k ls) (highest_is ls event k) (highest_is ls delete k));
       deletion_is = λ (k : ℕ). rw (F.deletion_found k) (deletion_from ls k (last_highest delete k ls) (highest_is ls delete k));
       link_is = λ (k : ℕ). rw (F.link_found k) (link_from ls k (last_highest link k ls) (highest_is ls link k));
     }

@@ -18,7 +18,7 @@ use Rattle.catalogue.specs.Catalogue.{Catalogue, parts, with_held, with_deletion
 use Rattle.catalogue.specs.Taking.{deed_of, done, step}
 use Rattle.catalogue.specs.Room.{room_size, encode, contents, room_after}
 use Rattle.catalogue.specs.Ordered.{Ordered}
-use Rattle.catalogue.specs.Entries.{Sought, RoomFor, Inside, place_of}
+use Rattle.catalogue.specs.Entries.{Sought, RoomFor, Inside, IsPlaceOf}
 use Rattle.catalogue.specs.Moves.{put_in, taken_out}
 use Rattle.catalogue.specs.Places.{end_of, held_in, deletions_in, links_in}
 use Rattle.catalogue.specs.Findings.{IsFound, Known, Notable}
@@ -41,7 +41,7 @@ room_capacity c = omega arith
 
 -- what putting an entry asks
 abbrev pub PutAsks : List ℕ → Section → ℕ → Seek → List ℕ → Type 0
-PutAsks r of used s l = Inside of r × (end_of of ≤ used) × RoomFor s (used + length l) (length r) × (of.count < 65535) × (length l ≡ of.size) × place_of s of.count
+PutAsks r of used s l = Inside of r × (end_of of ≤ used) × RoomFor s (used + length l) (length r) × (of.count < 65535) × (length l ≡ of.size) × IsPlaceOf s of.count
 
 -- the room x between the two moves of a Wipe: the deletion is put into it, which makes the room after the line
 pub record Between (r l : List ℕ) (v : ℕ) (s : Seek) (x : List ℕ) : Type 0 where

@@ -21,7 +21,7 @@ use Rattle.catalogue.specs.Taking.{covered, decide, limited, deed_of}
 use Rattle.catalogue.specs.Room.{contents}
 use Rattle.catalogue.specs.Ordered.{Ordered}
 use Rattle.catalogue.specs.Keys.{key_in}
-use Rattle.catalogue.specs.Entries.{entries_of, key_of_entry, entry_of, Inside, Sought, place_of}
+use Rattle.catalogue.specs.Entries.{entries_of, key_of_entry, entry_of, Inside, Sought, IsPlaceOf}
 use Rattle.catalogue.specs.Places.{end_of, held_in, deletions_in, links_in}
 use Rattle.catalogue.specs.Findings.{notice_kind, IsFound, Placed, Known}
 use Rattle.catalogue.proofs.laws.assoc.Below.{below_le}
@@ -62,7 +62,7 @@ unfolding deletion pair
 deletion_bytes l v h = sym (simp (first_two (drop 10 l) (simp length-drop (omega arith)), first_eight (drop 2 l) (simp length-drop (omega arith)), get_or-drop))
 
 -- a place that a search answers lies in the section
-pub sought_place : (f : List ℕ → ℕ) (k : ℕ) (xs : List (List ℕ)) (s : Seek) → Sought f k xs s → place_of s (length xs)
+pub sought_place : (f : List ℕ → ℕ) (k : ℕ) (xs : List (List ℕ)) (s : Seek) → Sought f k xs s → IsPlaceOf s (length xs)
 sought_place f k xs (Found i) h = h.1
 sought_place f k xs (Missing i) h = omega (arith, h.0, below_le f k xs)
 
@@ -96,7 +96,7 @@ module _ (r : List ℕ) (o : Ordered r) where
 
     -- where the pair is in no held line, or the line is no event, the deletions were searched
     pub searched : (kind l ≡ event → IsFound f.in_held → ⊥) → Sought deletion_key (key l) (contents r).deletions f.in_deletions
-    searched n = elim K.in_deletions_lem [ inl s ↦ s | inr u ↦ absurd (n u.0 u.1) ]
+    searched n = elim K.in_deletions [ inl s ↦ s | inr u ↦ absurd (n u.0 u.1) ]
 
     pub known_placed : Placed r f
     known_placed =
@@ -107,9 +107,9 @@ module _ (r : List ℕ) (o : Ordered r) where
           deletions_inside = (deletion_open K.deletions_are).0;
           held_size = ap (λ (s : Section). s.size) K.held_is;
           deletion_size = ap (λ (s : Section). s.size) K.deletions_are;
-          held_place = subst (place_of f.in_held) n (sought_place key (key l) (contents r).held f.in_held K.in_held);
-          deletion_place = elim K.in_deletions_lem [
-            | inl s ↦ subst (place_of f.in_deletions) m (sought_place deletion_key (key l) (contents r).deletions f.in_deletions s)
+          held_place = subst (IsPlaceOf f.in_held) n (sought_place key (key l) (contents r).held f.in_held K.in_held);
+          deletion_place = elim K.in_deletions [
+            | inl s ↦ subst (IsPlaceOf f.in_deletions) m (sought_place deletion_key (key l) (contents r).deletions f.in_deletions s)
             | inr u ↦ rw u.2 (omega arith)
           ];
         }
@@ -128,7 +128,7 @@ module _ (r : List ℕ) (o : Ordered r) where
         ≡ deed_of (contents r) l
     unfolding limited decide covered
     known_decides n e =
-        elim K.in_deletions_lem [
+        elim K.in_deletions [
           | inl s ↦
               sym (deed_of_lem (contents r) l n (entry_of (entries_of f.deletions r) f.in_deletions) (entry_of (entries_of f.held r) f.in_held) e
               (sought_find deletion_key (key l) (contents r).deletions (view_good r o).deletion_ascends f.in_deletions s ∙ ap (λ (xs : List (List ℕ)). entry_of xs f.in_deletions) (sym deletion_rows)) found_held)

@@ -21,7 +21,7 @@ use Rattle.catalogue.specs.Taking.{over_link, limited_link, link_deed, deed_of, 
 use Rattle.catalogue.specs.Room.{room_size, encode, contents, room_after}
 use Rattle.catalogue.specs.Ordered.{Ordered}
 use Rattle.catalogue.specs.Keys.{two, key_in}
-use Rattle.catalogue.specs.Entries.{entries_of, key_of_entry, entry_of, Inside, Sought, place_of, RoomFor}
+use Rattle.catalogue.specs.Entries.{entries_of, key_of_entry, entry_of, Inside, Sought, IsPlaceOf, RoomFor}
 use Rattle.catalogue.specs.Moves.{put_in}
 use Rattle.catalogue.specs.Places.{end_of, links_in}
 use Rattle.catalogue.proofs.laws.section.Parts.{put_section}
@@ -100,8 +100,8 @@ module _ {r : List ℕ} (o : Ordered r) where
       pub link_sought : {n : ℕ} → n ≡ triple_key l → (x : Seek) → Sought (key_of_entry s) n (entries_of s r) x → Sought link_key (triple_key l) (contents r).links x
       link_sought {n} p x h = sought_as (key_of_entry s) link_key n (triple_key l) (entries_of s r) (contents r).links x (ap key_of_entry e ∙ link_key_lem r) p link_rows h
 
-      pub link_place : (x : Seek) → Sought link_key (triple_key l) (contents r).links x → place_of x s.count
-      link_place x h = subst (place_of x) (sym (ap (λ (y : Section). y.count) e ∙ link_count r o)) (sought_place link_key (triple_key l) (contents r).links x h)
+      pub link_place : (x : Seek) → Sought link_key (triple_key l) (contents r).links x → IsPlaceOf x s.count
+      link_place x h = subst (IsPlaceOf x) (sym (ap (λ (y : Section). y.count) e ∙ link_count r o)) (sought_place link_key (triple_key l) (contents r).links x h)
 
       -- the code's decision is the definition's
       pub link_decided : (x : Seek) → Sought link_key (triple_key l) (contents r).links x → {y : List ℕ} → y ≡ link_entry l → {d g : Deed} → d ≡ over_link y (entry_of (entries_of s r) x)

@@ -34,7 +34,7 @@ use Rattle.catalogue.proofs.laws.step.Count.{Changes, named_leave, named_link, n
 use Rattle.catalogue.proofs.laws.step.Decide.{deed_refused}
 use Rattle.catalogue.proofs.laws.step.Link.{link_ok_lem}
 use Rattle.catalogue.proofs.laws.step.Untouched.{apart}
-use Rattle.catalogue.proofs.laws.room.View.{view_good, call_is, room_is, ordered_after, after_contents}
+use Rattle.catalogue.proofs.laws.room.View.{view_good, call_is, ordered_after, after_contents}
 use Rattle.catalogue.proofs.laws.room.Found.{searched, known_decides}
 use Rattle.catalogue.proofs.laws.room.Carry.{left}
 

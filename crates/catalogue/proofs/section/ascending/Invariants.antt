@@ -1,0 +1,17 @@
+use mathlib.Core.Path.{◌≡◌}
+use Prim.Native.Nat.{suc, ◌-◌, ◌≤◌, ◌<◌}
+use mathlib.Core.List.{[]}
+use lib.ListN.{drop, get_or}
+use Rattle.catalogue.specs.Good.{ascends}
+use Rattle.catalogue.specs.Entries.{entries_of, key_of_entry}
+use Rattle.catalogue.proofs.section.ascending.Given as goal
+
+-- The ascent is that of the entries from the i-th on, above the one before it.
+abbrev pub invariant-loop-i : goal.invariant-loop-i
+invariant-loop-i l =
+    (1 ≤ l.i)
+    × (0 < l.of.count → ascends (key_of_entry l.of) 0 (entries_of l.of l.s) ≡ ascends (key_of_entry l.of) (suc (key_of_entry l.of (get_or (entries_of l.of l.s) (l.i - 1) []))) (drop l.i (entries_of l.of l.s)))
+
+abbrev pub decreases-loop-i : goal.decreases-loop-i
+decreases-loop-i l =
+    l.of.count - l.i
