@@ -1,22 +1,22 @@
-# Builds and installs the library and the program. Proving is rt's work: `rt staticlib` and `rt check` prove before they write.
+# Builds and installs the library and the program. Proving is rt's work: `rt lib` and `rt run` prove before they write.
 PREFIX ?= /usr/local
 DESTDIR ?=
 VERSION = 0.2.0
-ARCHIVE = target/staticlib/librotmibel.a
-PROGRAM = target/bin/take
+ARCHIVE = crates/rotmibel/out/librotmibel.a
+PROGRAM = crates/take/out/take
 TO = $(DESTDIR)$(PREFIX)
-SOURCES := crates.txt $(shell find crates -name '*.rt' -o -name '*.antt')
+SOURCES := crates.txt $(shell find crates -name out -prune -o \( -name '*.rt' -o -name '*.antt' \) -print)
 
 .PHONY: all check install clean
 
 all: $(ARCHIVE) $(PROGRAM)
 
 $(ARCHIVE): $(SOURCES)
-	rt staticlib rotmibel
+	cd crates/rotmibel && rt lib
 	touch $@
 
 $(PROGRAM): $(SOURCES)
-	rt check take
+	cd crates/take && rt run </dev/null >/dev/null
 	touch $@
 
 check:
@@ -32,4 +32,4 @@ install: all
 	install -m 644 man/rotmibel.3 $(TO)/share/man/man3/rotmibel.3
 
 clean:
-	rm -rf target
+	rm -rf target crates/*/out

@@ -1,16 +1,17 @@
 // The library's reader and the second one held against each other on one line.
 ghost use Rattle.std.specs.Prelude.{◌≡◌, ◌≤◌, length};
 
-use super::report::{say, say_bytes, say_count};
+use super::report::{say, say_bytes};
 use super::second::{EVENT, LINK, Reading, refused};
 use columns::bytes::copy;
 use formats::Reply;
 use formats::cube_record::{read_into, write_from};
 use formats::record::get_numbers;
+use std::io;
 
 // Of a group of lines: on how many the readers agree and differ, and how many both accept. Of all lines: how many got
 // each answer of the library.
-#[derive(Drop)]
+#[derive(Clone, Copy)]
 pub struct Counts {
     pub agree: u64,
     pub differ: u64,
@@ -29,7 +30,7 @@ pub fn no_counts() -> Counts {
 }
 
 fn one_more(n: u64) -> u64 {
-    std::num::wrapping_add_u64(n, 1)
+    n.wrapping_add(1)
 }
 
 fn same_bytes(a: &[u8], b: &[u8]) -> bool {
@@ -176,18 +177,14 @@ pub fn reading(line: &[u8]) -> Reading {
     }
 }
 
-fn say_difference(line: &[u8], a: Reading, b: Reading) {
-    say(b"differ on ");
-    say_bytes(line);
-    say(b"  library ");
-    say_count(a.answer as u64);
-    say(b" ");
-    say_count(a.column as u64);
-    say(b" second ");
-    say_count(b.answer as u64);
-    say(b" ");
-    say_count(b.column as u64);
-    say(b"\n");
+fn say_difference(rt: &impl Print, line: &[u8], a: Reading, b: Reading) -> io::Result<()> {
+    say(rt, b"differ on ")?;
+    say_bytes(rt, line)?;
+    let answer = a.answer;
+    let column = a.column;
+    let other_answer = b.answer;
+    let other_column = b.column;
+    println!(rt; "  library {answer} {column} second {other_answer} {other_column}")
 }
 
 // Counts the library's answer.
@@ -211,7 +208,7 @@ fn agreed(c: Counts, answer: u8) -> Counts {
 }
 
 // Reads one line twice and counts the outcome; a difference is printed.
-pub fn compare(start: Counts, line: &[u8]) -> Counts {
+pub fn compare(rt: &impl Print, start: Counts, line: &[u8]) -> io::Result<Counts> {
     let a = reading(line);
     let b = super::second::read_line(line);
     let mut c = start;
@@ -219,11 +216,11 @@ pub fn compare(start: Counts, line: &[u8]) -> Counts {
     let answers = count_answer(a.answer, before);
     c.answers = answers;
     if same(a, b) {
-        return agreed(c, a.answer);
+        return Ok(agreed(c, a.answer));
     }
-    say_difference(line, a, b);
+    say_difference(rt, line, a, b)?;
     c.differ = one_more(c.differ);
-    c
+    Ok(c)
 }
 
 // Whether the library's record of a line is written as that line.

@@ -37,7 +37,7 @@ pub const LINK: u8 = 4;
 // An answer with its column and, of a line that was read, its kind, the lengths of a link's type, address and text or of a
 // delete's free text, and the record: 19 numbers with a flag for each that is not missing, and the text bytes in the order of
 // their columns.
-#[derive(Drop)]
+#[derive(Clone, Copy)]
 pub struct Reading {
     pub answer: u8,
     pub column: usize,
@@ -77,7 +77,7 @@ pub fn check_character(s: &[u8]) -> u8 {
     let mut i = 0;
     while i < s.len() {
         let turned = (sum >> 1) | (sum << 15);
-        sum = std::num::wrapping_add_u16(turned, wide(s[i]));
+        sum = turned.wrapping_add(wide(s[i]));
         i += 1;
     }
     36 + ((sum % 91) as u8)

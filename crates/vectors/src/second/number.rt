@@ -3,7 +3,7 @@ ghost use Rattle.std.specs.Prelude.{◌+◌, ◌<◌, ◌≤◌, length};
 ghost use Rattle.vectors.specs.Digits.{EightPlaces};
 
 // A number field: blank, a number, or of bad form.
-#[derive(Drop)]
+#[derive(Clone, Copy)]
 pub enum Number {
     Missing,
     Value(i64),
@@ -11,7 +11,7 @@ pub enum Number {
 }
 
 // Digits up to the end of a field, or something else among them.
-#[derive(Drop)]
+#[derive(Clone, Copy)]
 enum Digits {
     Value(u64),
     Bad,
