@@ -39,7 +39,15 @@ fn all_alike(flags: &[u8]) -> bool
     if flags.len() == 0 {
         return true;
     }
-    all_same(&flags[1..], flags[0])
+    let first = flags[0];
+    let mut i = 1;
+    while i < flags.len() {
+        if flags[i] != first {
+            return false;
+        }
+        i += 1;
+    }
+    true
 }
 
 // Whether the flags of each column's numbers are alike, for n columns of a table from its row `first` on.

@@ -259,6 +259,41 @@ read_fills (c ∷ cs) seen at line r g f b e =
 -- ---- the loops that test it
 
 -- the flags before place i are f
+pub record Alike (fs : List ℕ) (f i : ℕ) : Type 0 where
+  pub inside : i ≤ length fs
+  pub same : alike fs ≡ all_same f (drop i fs)
+
+module _ (fs : List ℕ) where
+  pub alike_none : length fs ≡ 0 → true ≡ alike fs
+  unfolding alike
+  alike_none n = by_list fs n
+    where
+      by_list : (l : List ℕ) → length l ≡ 0 → true ≡ alike l
+      by_list [] m = refl
+      by_list (x ∷ l) m = absurd (omega arith)
+
+  pub alike_start : (length fs ≡ 0 → ⊥) → Alike fs (get_or fs 0 0) 1
+  unfolding alike
+  alike_start n = by_list fs n
+    where
+      by_list : (l : List ℕ) → (length l ≡ 0 → ⊥) → Alike l (get_or l 0 0) 1
+      by_list [] m = absurd (m refl)
+      by_list (x ∷ l) m = record { inside = omega arith; same = refl }
+
+  module _ (f i : ℕ) (a : Alike fs f i) where
+    pub alike_end : length fs ≤ i → true ≡ alike fs
+    unfolding all_same
+    alike_end h = sym (a.same ∙ rw (drop_of_length-le fs {i = i} h))
+
+    pub alike_other : i < length fs → (get_or fs i 0 ≡ f → ⊥) → false ≡ alike fs
+    unfolding all_same
+    alike_other h n = sym (a.same ∙ rw (drop-cons fs i 0 h, ne_eqb (get_or fs i 0) f n))
+
+    pub alike_more : i < length fs → get_or fs i 0 ≡ f → Alike fs f (i + 1)
+    unfolding all_same
+    alike_more h e = record { inside = omega arith; same = a.same ∙ rw (drop-cons fs i 0 h, eq-eqb (get_or fs i 0) f e, add-one) }
+
+-- the same, where f is given
 pub record Same (fs : List ℕ) (f i : ℕ) : Type 0 where
   pub inside : i ≤ length fs
   pub same : all_same f fs ≡ all_same f (drop i fs)
@@ -281,11 +316,6 @@ module _ (fs : List ℕ) (f : ℕ) where
     same_more h e = record { inside = omega arith; same = a.same ∙ rw (drop-cons fs i 0 h, eq-eqb (get_or fs i 0) f e, add-one) }
 
 -- the first flag, and the others
-pub alike_none : (fs : List ℕ) → length fs ≡ 0 → true ≡ alike fs
-unfolding alike
-alike_none [] n = refl
-alike_none (x ∷ fs) n = absurd (omega arith)
-
 pub alike_some : (fs : List ℕ) → (length fs ≡ 0 → ⊥) → all_same (get_or fs 0 0) (take (length fs - 1) (drop 1 fs)) ≡ alike fs
 unfolding alike
 alike_some [] n = absurd (n refl)
