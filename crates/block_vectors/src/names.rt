@@ -1,22 +1,101 @@
-// What is printed of a record's parts, in the order of their columns: the names of its texts, their widths, the names of its numbers.
-pub const PHASE_TEXTS: [u8; 243] =
-    *b"station|phase|time defining|azimuth defining|slowness defining|type of pick|\
-    short period motion|onset|magnitude type|bound|arrival|arrival extension|\
-    agency|deployment|location|author|reporter|phase channel|\
-    amplitude channel|long period motion|";
+// What is printed of the blocks of a kind: what their lines are called, one and several, the names and widths of their texts and the
+// names of their numbers, in the order of their columns.
+use formats::format::{ARRIVAL, PHASE};
 
-pub const PHASE_WIDTHS: [u8; 20] = [5, 8, 1, 1, 1, 1, 1, 1, 5, 1, 8, 3, 5, 8, 2, 5, 5, 3, 3, 1];
+pub struct Names {
+    pub kind: u8,
+    pub row: &'static str,
+    pub rows: &'static str,
+    pub texts: &'static [(&'static str, usize)],
+    pub numbers: &'static [&'static str],
+}
 
-pub const PHASE_NUMBERS: [u8; 195] = *b"distance|event azimuth|hour|minute|second|time residual|\
-    observed azimuth|azimuth residual|slowness|slowness residual|signal to noise|amplitude|\
-    period|magnitude|latitude|longitude|elevation|depth|";
+pub const PHASES: Names = Names {
+    kind: PHASE,
+    row: "phase",
+    rows: "phases",
+    texts: &[
+        ("station", 5),
+        ("phase", 8),
+        ("time defining", 1),
+        ("azimuth defining", 1),
+        ("slowness defining", 1),
+        ("type of pick", 1),
+        ("short period motion", 1),
+        ("onset", 1),
+        ("magnitude type", 5),
+        ("bound", 1),
+        ("arrival", 8),
+        ("arrival extension", 3),
+        ("agency", 5),
+        ("deployment", 8),
+        ("location", 2),
+        ("author", 5),
+        ("reporter", 5),
+        ("phase channel", 3),
+        ("amplitude channel", 3),
+        ("long period motion", 1),
+    ],
+    numbers: &[
+        "distance",
+        "event azimuth",
+        "hour",
+        "minute",
+        "second",
+        "time residual",
+        "observed azimuth",
+        "azimuth residual",
+        "slowness",
+        "slowness residual",
+        "signal to noise",
+        "amplitude",
+        "period",
+        "magnitude",
+        "latitude",
+        "longitude",
+        "elevation",
+        "depth",
+    ],
+};
 
-pub const ARRIVAL_TEXTS: [u8; 168] = *b"network|station|beam|phase|detection author|detection|\
-    detection extension|agency|deployment|location|author|reporter|\
-    phase channel|amplitude channel|long period motion|";
-
-pub const ARRIVAL_WIDTHS: [u8; 15] = [9, 5, 12, 8, 9, 8, 3, 5, 8, 2, 5, 5, 3, 3, 1];
-
-pub const ARRIVAL_NUMBERS: [u8; 147] = *b"year|month|day|hour|minute|second|\
-    azimuth|slowness|signal to noise|amplitude|period|short-term average|\
-    duration|latitude|longitude|elevation|depth|";
+pub const ARRIVALS: Names = Names {
+    kind: ARRIVAL,
+    row: "arrival",
+    rows: "arrivals",
+    texts: &[
+        ("network", 9),
+        ("station", 5),
+        ("beam", 12),
+        ("phase", 8),
+        ("detection author", 9),
+        ("detection", 8),
+        ("detection extension", 3),
+        ("agency", 5),
+        ("deployment", 8),
+        ("location", 2),
+        ("author", 5),
+        ("reporter", 5),
+        ("phase channel", 3),
+        ("amplitude channel", 3),
+        ("long period motion", 1),
+    ],
+    numbers: &[
+        "year",
+        "month",
+        "day",
+        "hour",
+        "minute",
+        "second",
+        "azimuth",
+        "slowness",
+        "signal to noise",
+        "amplitude",
+        "period",
+        "short-term average",
+        "duration",
+        "latitude",
+        "longitude",
+        "elevation",
+        "depth",
+    ],
+};

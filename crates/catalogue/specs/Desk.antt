@@ -1,5 +1,5 @@
 -- A desk: a list of lines taken into its room, and what two desks leave. Document 01, demand 3, about code.
-use Rattle.std.specs.Prelude.{ℕ, suc, ◌+◌, ◌-◌, ◌≡◌, List, [], ◌∷◌, ◌++◌, ltb, leb, length, take, drop}
+use Rattle.std.specs.Prelude.{ℕ, suc, ◌+◌, ◌-◌, ◌≡◌, List, [], ◌∷◌, ◌++◌, ltb, leb, is_err, length, take, drop}
 use Rattle.columns.specs.Answer.{pick}
 use Rattle.catalogue.specs.declared.desk.Tally.{Tally}
 use Rattle.catalogue.specs.declared.desk.Tallies.{Tallies}
@@ -29,7 +29,7 @@ ends_from start (l ∷ ls) = (start + length l) ∷ ends_from (start + length l)
 -- how many of the lines are refused, each taken into the room as the last call left it
 unfoldable pub refusals : List ℕ → List (List ℕ) → ℕ
 refusals room [] = 0
-refusals room (l ∷ ls) = pick (leb (call_of room l).number 19) (suc (refusals (room_after room l) ls)) (refusals (room_after room l) ls)
+refusals room (l ∷ ls) = pick (is_err (call_of room l)) (suc (refusals (room_after room l) ls)) (refusals (room_after room l) ls)
 
 -- a list of lines was taken: the room after, how many lines there were and how many were refused; a room too short or out of order is
 -- left as it was, and each line is refused

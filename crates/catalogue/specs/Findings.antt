@@ -1,12 +1,5 @@
 -- What the code finds of a line's pair before it decides, and what it answers after.
-use Rattle.std.specs.Prelude.{ℕ, suc, ◌≤◌, ◌≡◌, ◌⊎◌, List, eqb, length}
-use Rattle.columns.specs.Answer.{pick}
-use Rattle.formats.specs.Cube.{event_kind}
-use Rattle.formats.specs.declared.cube.Read.{Read}
-use Rattle.formats.specs.Numbers.{number_of_read, read_column}
-use Rattle.catalogue.specs.declared.Call.{Call}
-use Rattle.catalogue.specs.declared.section.Seek.{Seek}
-use Rattle.catalogue.specs.declared.section.Seek.TheVariants.{Found, Missing}
+use Rattle.std.specs.Prelude.{ℕ, suc, ◌≤◌, ◌≡◌, ◌⊎◌, List, length, Result, Ok, Err}
 use Rattle.catalogue.specs.declared.decide.Deed.{Deed}
 use Rattle.catalogue.specs.declared.decide.Deed.TheVariants.{Leave, Hold, Note, Wipe, Link}
 use Rattle.catalogue.specs.declared.decide.Notice.{Notice}
@@ -27,18 +20,10 @@ notice_kind Event = event
 notice_kind Delete = delete
 notice_kind Blank = blank
 
--- by the kind of record that was read, and the line's version
-abbrev pub notice_of : ℕ → ℕ → Notice
-notice_of k v = pick (eqb k event_kind) Event (pick (eqb v 32) Blank Delete)
-
--- the number and column of a refusal
-abbrev pub refused_call : Read → Call
-refused_call r = record { number = number_of_read r; column = read_column r }
-
 -- the pair is in the section
-abbrev pub IsFound : Seek → Type 0
-IsFound (Found i) = Unit {0}
-IsFound (Missing i) = ⊥
+abbrev pub IsFound : Result ℕ ℕ → Type 0
+IsFound (Ok i) = Unit {0}
+IsFound (Err i) = ⊥
 
 -- held lines and deletions lie in the room's bytes, and both places in their sections
 pub record Placed (r : List ℕ) (f : Findings) : Type 0 where
@@ -54,21 +39,21 @@ pub record Known (r l : List ℕ) (f : Findings) : Type 0 where
   pub held_is : f.held ≡ held_in r
   pub deletions_are : f.deletions ≡ deletions_in r
   pub in_held : Sought key (key l) (contents r).held f.in_held
-  pub in_deletions : Sought deletion_key (key l) (contents r).deletions f.in_deletions ⊎ ((kind l ≡ event) × IsFound f.in_held × (f.in_deletions ≡ Missing 0))
+  pub in_deletions : Sought deletion_key (key l) (contents r).deletions f.in_deletions ⊎ ((kind l ≡ event) × IsFound f.in_held × (f.in_deletions ≡ Err 0))
 
 -- a deletion of the line's pair can be put at its place among the deletions
-pub record Notable (r l : List ℕ) (v : ℕ) (s : Seek) : Type 0 where
+pub record Notable (r l : List ℕ) (v : ℕ) (s : Result ℕ ℕ) : Type 0 where
   pub long : 13 ≤ length l
   pub place : Sought deletion_key (key l) (contents r).deletions s
   pub few : length (put deletion_key (deletion l v) (contents r).deletions) ≤ 512
 
 -- how many pairs are named after it
-abbrev pub one_more_named : Seek → Seek → ℕ → ℕ
-one_more_named (Found i) d n = n
-one_more_named (Missing i) (Found j) n = n
-one_more_named (Missing i) (Missing j) n = suc n
+abbrev pub one_more_named : Result ℕ ℕ → Result ℕ ℕ → ℕ → ℕ
+one_more_named (Ok i) d n = n
+one_more_named (Err i) (Ok j) n = n
+one_more_named (Err i) (Err j) n = suc n
 
-abbrev pub named_after : Deed → Seek → Seek → ℕ → ℕ
+abbrev pub named_after : Deed → Result ℕ ℕ → Result ℕ ℕ → ℕ → ℕ
 named_after (Leave m) h d n = n
 named_after (Hold m) h d n = one_more_named h d n
 named_after (Note v) h d n = one_more_named h d n

@@ -1,11 +1,8 @@
 -- A search by halving, for any contents, in order or not. Document 02, "Look up without walking the catalogue".
-use Rattle.std.specs.Prelude.{ℕ, zero, suc, ◌+◌, ◌-◌, ◌/◌, ◌≡◌, List, [], ◌∷◌, ltb, eqb, length, get_or}
+use Rattle.std.specs.Prelude.{ℕ, Option, Some, None, zero, suc, ◌+◌, ◌-◌, ◌/◌, ◌≡◌, List, [], ◌∷◌, ltb, eqb, length, get_or}
 use Rattle.std.specs.Int.Count.{count_leading_zeros}
 use Rattle.columns.specs.Answer.{pick}
 use Rattle.catalogue.specs.declared.Searched.{Searched}
-use Rattle.catalogue.specs.declared.Looked.{Looked}
-use Rattle.catalogue.specs.Answers.{is_held, not_held}
-use Rattle.catalogue.specs.LookUp.{looked}
 
 -- half the sum, rounded down, of a stretch's first place and the place after its last
 abbrev pub middle : ℕ → ℕ → ℕ
@@ -23,17 +20,17 @@ examine at k (suc turns) first end =
     (pick (ltb (at (middle first end)) k) (examine at k turns (middle first end + 1) end) (examine at k turns first (middle first end))))
     []
 
--- the place among them whose entry has the key, 27, or 28
-unfoldable pub looked_at : (ℕ → ℕ) → ℕ → List ℕ → Looked
-looked_at at k [] = looked not_held 0
-looked_at at k (i ∷ is) = pick (eqb (at i) k) (looked is_held i) (looked_at at k is)
+-- the place among them whose entry has the key
+unfoldable pub looked_at : (ℕ → ℕ) → ℕ → List ℕ → Option ℕ
+looked_at at k [] = None
+looked_at at k (i ∷ is) = pick (eqb (at i) k) (Some i) (looked_at at k is)
 
--- that answer, and how many entries were examined
-abbrev pub searched : ℕ → ℕ → ℕ → Searched
-searched n i m = record { number = n; place = i; examined = m }
+-- that place, and how many entries were examined
+abbrev pub searched : Option ℕ → ℕ → Searched
+searched i m = record { place = i; examined = m }
 
 abbrev pub searched_at : (ℕ → ℕ) → ℕ → List ℕ → Searched
-searched_at at k is = searched (looked_at at k is).number (looked_at at k is).place (length is)
+searched_at at k is = searched (looked_at at k is) (length is)
 
 abbrev pub halving : (ℕ → ℕ) → ℕ → ℕ → ℕ → ℕ → Searched
 halving at k turns first end = searched_at at k (examine at k turns first end)
@@ -54,7 +51,12 @@ SameAt at to (i ∷ is) = (at i ≡ to i) × SameAt at to is
 abbrev pub binary_digits : ℕ → ℕ
 binary_digits n = 64 - count_leading_zeros 64 n
 
+-- a place, or a number where there is none
+abbrev pub place_or : ℕ → Option ℕ → ℕ
+place_or n (Some i) = i
+place_or n None = n
+
 -- what the code's search comes to: the place, or 512 where there is none; before it `from` entries could be examined, after it `left`
 pub record Stopped (x : Searched) (place from left : ℕ) : Type 0 where
-  pub place_is : place ≡ pick (eqb x.number is_held) x.place 512
+  pub place_is : place ≡ place_or 512 x.place
   pub left_is : left + x.examined ≡ from

@@ -1,12 +1,11 @@
 -- What the catalogue reads of a line: its kind, its pair or triple and its version. Document 01, "The catalogue"; document 02, "Take the
 -- links".
 use Rattle.std.specs.Prelude.{ℕ, ◌+◌, ◌*◌, ◌-◌, ◌≡◌, List, [], ◌∷◌, ◌++◌, eqb, length, take, drop, get_or, replicate}
-use Rattle.columns.specs.Answer.{pick, Answer, ok, refusal}
+use Rattle.columns.specs.Answer.{pick, Answer, ok, refusal, refusal_at, wrong_length}
 use Rattle.formats.specs.Cube.{Message, read_line}
 use Rattle.formats.specs.Link.{word}
 use Rattle.columns.specs.Word.{word_of}
-use Rattle.columns.specs.Table.{outcome_of}
-use Rattle.columns.specs.Numbers.{outcome_number, outcome_column}
+use Rattle.columns.specs.declared.Refusal.{Refusal}
 use Rattle.formats.specs.Cube as cube
 
 -- acceptable as an E line, as a DE line with a version, as a DE line with a blank version, as an LI line; refused
@@ -26,12 +25,10 @@ kind l = kind_of (read_line l)
 abbrev pub Acceptable : List ℕ → Type 0
 Acceptable l = kind l ≡ refused → ⊥
 
--- the number and the column of a refused line
-abbrev pub refused_by : Answer Message → ℕ
-refused_by a = outcome_number (outcome_of a)
-
-abbrev pub refused_at : Answer Message → ℕ
-refused_at a = outcome_column (outcome_of a)
+-- the refusal of a refused line; a line that is read has none, and its length's stands here
+abbrev pub refusal_in : Answer Message → Refusal
+refusal_in (ok m) = refusal_at wrong_length 0
+refusal_in (refusal n k) = refusal_at n k
 
 -- a line's pair is its source (columns 11 and 12) with its identifier (columns 3 to 10)
 unfoldable pub pair : List ℕ → List ℕ

@@ -1,12 +1,10 @@
 -- A room, the bytes of one catalogue: its layout, what in order means, and what a call answers and leaves. Document 01, "The
 -- catalogue", "Numbers answered".
-use Rattle.std.specs.Prelude.{ℕ, ◌-◌, Bool, ◌&&◌, List, [], ◌∷◌, ◌++◌, leb, length, take, drop, replicate}
+use Rattle.std.specs.Prelude.{ℕ, Result, Ok, Err, ⊤, ◌-◌, Bool, ◌&&◌, List, [], ◌∷◌, ◌++◌, leb, length, take, drop, replicate}
 use Rattle.columns.specs.Answer.{pick, too_short}
-use Rattle.formats.specs.Cube.{read_line}
 use Rattle.columns.specs.Bytes.{same_bytes}
-use Rattle.catalogue.specs.declared.Call.{Call}
-use Rattle.catalogue.specs.Answers.{not_in_order}
-use Rattle.catalogue.specs.Line.{refused_at}
+use Rattle.columns.specs.declared.Reason.{Reason}
+use Rattle.catalogue.specs.Answers.{not_in_order, Call, declined_as}
 use Rattle.catalogue.specs.Section.{Part, laid, said, capacity}
 use Rattle.catalogue.specs.Catalogue.{Catalogue, empty, parts, from_parts}
 use Rattle.catalogue.specs.Taking.{step}
@@ -33,22 +31,20 @@ is_in_order r = good (contents r) && same_bytes (encode (contents r)) r
 
 -- ---- what a call answers and leaves: 11, 13, then what the room in order gives; of a longer room the first bytes count
 
-unfoldable pub checked : {A : Type 0} → List ℕ → (ℕ → A) → A → A
+unfoldable pub checked : {A : Type 0} → List ℕ → (Reason → A) → A → A
 checked room refused fine = pick (leb room_size (length room)) (pick (is_in_order (take room_size room)) fine (refused not_in_order)) (refused too_short)
 
--- any bytes, judged: 0 in order
-abbrev pub order_of : List ℕ → ℕ
-order_of room = checked room (λ (n : ℕ). n) 0
+-- any bytes, judged: in order, or why not
+abbrev pub order_of : List ℕ → Result ⊤ Reason
+order_of room = checked room (λ n. Err n) (Ok tt)
 
--- a call's answer on a room and a line; the column is that of a refused line
+-- a call's answer on a room and a line
 abbrev pub call_of : List ℕ → List ℕ → Call
-call_of room line =
-    checked room (λ (n : ℕ). record { number = n; column = 0 })
-    (record { number = (step (contents (take room_size room)) line).answer; column = refused_at (read_line line) })
+call_of room line = checked room declined_as (step (contents (take room_size room)) line).answer
 
 -- the room after the call
 abbrev pub room_after : List ℕ → List ℕ → List ℕ
-room_after room line = checked room (λ (n : ℕ). room) (encode (step (contents (take room_size room)) line).after ++ drop room_size room)
+room_after room line = checked room (λ n. room) (encode (step (contents (take room_size room)) line).after ++ drop room_size room)
 
 -- the lines one by one, each into the room as the last call left it
 unfoldable pub feed : List ℕ → List (List ℕ) → List ℕ

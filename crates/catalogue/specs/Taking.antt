@@ -1,5 +1,5 @@
 -- What a line does to the catalogue. Document 01, "The catalogue"; document 02, "Take the links".
-use Rattle.std.specs.Prelude.{ℕ, Bool, false, List, [], ◌∷◌, ltb, leb, length}
+use Rattle.std.specs.Prelude.{ℕ, Ok, Err, Bool, false, List, [], ◌∷◌, ltb, leb, length}
 use Rattle.std.proofs.Math.Option.{Option, none, some}
 use Rattle.columns.specs.Answer.{pick}
 use Rattle.formats.specs.Cube.{read_line}
@@ -8,9 +8,10 @@ use Rattle.catalogue.specs.declared.decide.Deed.{Deed}
 use Rattle.catalogue.specs.declared.decide.Deed.TheVariants.{Leave, Hold, Note, Wipe, Link}
 use Rattle.catalogue.specs.declared.decide.Notice.{Notice}
 use Rattle.catalogue.specs.declared.decide.Notice.TheVariants.{Event, Delete, Blank}
-use Rattle.catalogue.specs.Answers.{full, links_full, stored, replaced, repeated, outdated, nothing_held, answered}
+use Rattle.catalogue.specs.declared.Effect.TheVariants.{Stored, Replaced, Repeated, Outdated, NothingHeld}
+use Rattle.catalogue.specs.Answers.{full, links_full, Call, declined_as, answered}
 use Rattle.catalogue.specs.Assoc.{find, put, remove}
-use Rattle.catalogue.specs.Line.{Kind, event, delete, blank, link, refused, kind, refused_by, version, key, deletion, deletion_key, deletion_version, triple_key, link_entry, link_key, link_version}
+use Rattle.catalogue.specs.Line.{Kind, event, delete, blank, link, refused, kind, refusal_in, version, key, deletion, deletion_key, deletion_version, triple_key, link_entry, link_key, link_version}
 use Rattle.catalogue.specs.Catalogue.{Catalogue, with_held, with_deletions, with_links, named}
 
 -- the deleted version is at or above v
@@ -20,8 +21,8 @@ covered (some d) v = leb v (deletion_version d)
 
 -- E, not covered: nothing held 20; held version above it 23; equal bytes 22; otherwise replaced, 21
 unfoldable pub over_held : List ℕ → Option (List ℕ) → Deed
-over_held l none = Hold stored
-over_held l (some h) = pick (ltb (version l) (version h)) (Leave outdated) (pick (same_bytes l h) (Leave repeated) (Hold replaced))
+over_held l none = Hold Stored
+over_held l (some h) = pick (ltb (version l) (version h)) (Leave (Ok Outdated)) (pick (same_bytes l h) (Leave (Ok Repeated)) (Hold Replaced))
 
 -- DE, not covered: the deletion becomes its version; a held line at or below it is removed, or none is
 unfoldable pub over_deleted : ℕ → Option (List ℕ) → Deed
@@ -30,22 +31,22 @@ over_deleted v (some h) = pick (leb (version h) v) (Wipe v) (Note v)
 
 -- DE with a blank version: a held line is removed and its version becomes the deleted one; nothing held 26
 unfoldable pub over_blank : Option (List ℕ) → Deed
-over_blank none = Leave nothing_held
+over_blank none = Leave (Ok NothingHeld)
 over_blank (some h) = Wipe (version h)
 
 -- an E or a DE line, by its pair's deletion and held line: covered 23
 unfoldable pub decide : Notice → List ℕ → Option (List ℕ) → Option (List ℕ) → Deed
-decide Event l d h = pick (covered d (version l)) (Leave outdated) (over_held l h)
-decide Delete l d h = pick (covered d (version l)) (Leave outdated) (over_deleted (version l) h)
+decide Event l d h = pick (covered d (version l)) (Leave (Ok Outdated)) (over_held l h)
+decide Delete l d h = pick (covered d (version l)) (Leave (Ok Outdated)) (over_deleted (version l) h)
 decide Blank l d h = over_blank h
 
 -- a pair that would be new where 512 are named: 12, not where 26 answers
 unfoldable pub declined : Deed → Deed
 declined (Leave n) = Leave n
-declined (Hold n) = Leave full
-declined (Note v) = Leave full
-declined (Wipe v) = Leave full
-declined (Link n) = Leave full
+declined (Hold n) = Leave (declined_as full)
+declined (Note v) = Leave (declined_as full)
+declined (Wipe v) = Leave (declined_as full)
+declined (Link n) = Leave (declined_as full)
 
 unfoldable pub limited : ℕ → Option (List ℕ) → Option (List ℕ) → Deed → Deed
 limited n none none e = pick (leb 512 n) (declined e) e
@@ -59,12 +60,12 @@ pair_deed t c l =
 
 -- LI, by its entry and that of its triple: none there 20; version above it 23; equal bytes 22; otherwise replaced, 21
 unfoldable pub over_link : List ℕ → Option (List ℕ) → Deed
-over_link e none = Link stored
-over_link e (some x) = pick (ltb (link_version e) (link_version x)) (Leave outdated) (pick (same_bytes e x) (Leave repeated) (Link replaced))
+over_link e none = Link Stored
+over_link e (some x) = pick (ltb (link_version e) (link_version x)) (Leave (Ok Outdated)) (pick (same_bytes e x) (Leave (Ok Repeated)) (Link Replaced))
 
 -- a triple that would be new where there are 64: 16
 unfoldable pub limited_link : ℕ → Option (List ℕ) → Deed → Deed
-limited_link n none e = pick (leb 64 n) (Leave links_full) e
+limited_link n none e = pick (leb 64 n) (Leave (declined_as links_full)) e
 limited_link n (some x) e = e
 
 unfoldable pub link_deed : Catalogue → List ℕ → Deed
@@ -77,14 +78,14 @@ deed_by event c l = pair_deed Event c l
 deed_by delete c l = pair_deed Delete c l
 deed_by blank c l = pair_deed Blank c l
 deed_by link c l = link_deed c l
-deed_by refused c l = Leave (refused_by (read_line l))
+deed_by refused c l = Leave (Err (refusal_in (read_line l)))
 
 unfoldable pub deed_of : Catalogue → List ℕ → Deed
 deed_of c l = deed_by (kind l) c l
 
 -- what a call answers, and the catalogue after it
 pub record Taken : Type 0 where
-  pub answer : ℕ
+  pub answer : Call
   pub after : Catalogue
 
 -- the deed done

@@ -3,24 +3,25 @@ ghost use Rattle.std.specs.Prelude.{◌≡◌, true, List, ℕ, ◌≤◌, lengt
 ghost use Rattle.catalogue.specs.Line.{kind};
 ghost use Rattle.catalogue.specs.Taking.{covered as covered_by, over_held, over_deleted, over_blank, decide as decide_by, declined as declined_by, limited as limited_to};
 ghost use Rattle.catalogue.specs.Ordered.{Ordered};
-ghost use Rattle.catalogue.specs.Entries.{entries_of, entry_of, Inside, IsPlaceOf};
+ghost use Rattle.catalogue.specs.Entries.{entries_of, entry_of, IsPlaceOf};
 ghost use Rattle.catalogue.specs.Findings.{notice_kind, IsFound, Placed, Known};
 
-use super::PAIRS;
 use super::key::key_at;
 use super::room::{deletions_in, held_in};
-use super::section::{Section, Seek, entry_at, entry_byte, look};
+use super::section::{Entries, Section};
+use super::{Effect, PAIRS};
 use columns::bytes::same;
+use columns::{Reason, Refusal};
 
 // What a line does: nothing, with an answer; the line is held, with an answer; its pair's deletion becomes a version; its held line goes
 // besides; the line is stored among the links, with an answer.
 #[derive(Clone, Copy)]
 pub enum Deed {
-    Leave(u8),
-    Hold(u8),
+    Leave(Result<Effect, Refusal>),
+    Hold(Effect),
     Note(u8),
     Wipe(u8),
-    Link(u8),
+    Link(Effect),
 }
 
 // An acceptable line about a pair: an event, a delete with a version, a delete with a blank one.
@@ -36,22 +37,15 @@ pub enum Notice {
 pub struct Findings {
     pub held: Section,
     pub deletions: Section,
-    pub in_held: Seek,
-    pub in_deletions: Seek,
+    pub in_held: Result<usize, usize>,
+    pub in_deletions: Result<usize, usize>,
 }
 
 // Whether the deletions need no look.
-fn skips(notice: Notice, in_held: Seek) -> bool
+fn skips(notice: Notice, in_held: Result<usize, usize>) -> bool
     ensures { result ≡ true → (notice ≡ Notice.Event) × IsFound in_held }
 {
-    match notice {
-        Notice::Delete => false,
-        Notice::Blank => false,
-        Notice::Event => match in_held {
-            Seek::Missing(_) => false,
-            Seek::Found(_) => true,
-        },
-    }
+    matches!((notice, in_held), (Notice::Event, Ok(_)))
 }
 
 // Looks for a line's pair. A held version is above its deletion, so an event whose pair is held needs no look at the deletions.
@@ -62,16 +56,20 @@ pub fn look_both(room: &[u8], notice: Notice, line: &[u8]) -> Findings
     let held = held_in(room);
     let deletions = deletions_in(room, held);
     let key = key_at(line, 10, 2, false);
-    let in_held = look(room, held, key);
-    if skips(notice, in_held) {
-        return Findings {
-            held,
-            deletions,
-            in_held,
-            in_deletions: Seek::Missing(0),
-        };
+    let in_held = Entries {
+        bytes: room,
+        of: held,
     }
-    let in_deletions = look(room, deletions, key);
+    .look(key);
+    let in_deletions = if skips(notice, in_held) {
+        Err(0)
+    } else {
+        Entries {
+            bytes: room,
+            of: deletions,
+        }
+        .look(key)
+    };
     Findings {
         held,
         deletions,
@@ -81,119 +79,118 @@ pub fn look_both(room: &[u8], notice: Notice, line: &[u8]) -> Findings
 }
 
 // Whether an entry of the pair's deletions covers a version.
-fn covered(room: &[u8], of: Section, seek: Seek, v: u8) -> bool
-    requires { Inside of room.now × (of.size ≡ 11) × IsPlaceOf seek of.count }
-    ensures { result ≡ covered_by (entry_of (entries_of of room.now) seek) v }
+#[tactic(auto, unfolding(crate::specs::Taking::covered, crate::specs::Line::deletion_version))]
+fn covered(deletions: &Entries, seek: Result<usize, usize>, v: u8) -> bool
+    requires { (deletions.now.of.size ≡ 11) × IsPlaceOf seek deletions.now.of.count }
+    ensures { result ≡ covered_by (entry_of (entries_of deletions.now.of deletions.now.bytes.now) seek) v }
 {
     match seek {
-        Seek::Missing(_) => false,
-        Seek::Found(j) => v <= entry_byte(room, of, j, 10),
+        Ok(j) => v <= deletions.entry_byte(j, 10),
+        Err(_) => false,
     }
 }
 
 // An event that no deletion covers.
-fn over_held(room: &[u8], of: Section, seek: Seek, line: &[u8]) -> Deed
-    requires { Inside of room.now × (of.size ≡ 80) × IsPlaceOf seek of.count × (13 ≤ length line.now) }
-    ensures { result ≡ over_held line.now (entry_of (entries_of of room.now) seek) }
+#[tactic(auto, unfolding(crate::specs::Taking::over_held, crate::specs::Line::version))]
+fn over_held(held: &Entries, seek: Result<usize, usize>, line: &[u8]) -> Deed
+    requires { (held.now.of.size ≡ 80) × IsPlaceOf seek held.now.of.count × (13 ≤ length line.now) }
+    ensures { result ≡ over_held line.now (entry_of (entries_of held.now.of held.now.bytes.now) seek) }
 {
     match seek {
-        Seek::Missing(_) => Deed::Hold(super::STORED),
-        Seek::Found(i) => {
-            if line[12] < entry_byte(room, of, i, 12) {
-                return Deed::Leave(super::OUTDATED);
+        Err(_) => Deed::Hold(Effect::Stored),
+        Ok(i) => {
+            let entry = held.entry(i);
+            if line[12] < entry[12] {
+                Deed::Leave(Ok(Effect::Outdated))
+            } else if same(line, entry) {
+                Deed::Leave(Ok(Effect::Repeated))
+            } else {
+                Deed::Hold(Effect::Replaced)
             }
-            let at = entry_at(room, of, i);
-            let end = at + 80;
-            if same(line, &room[at..end]) {
-                return Deed::Leave(super::REPEATED);
-            }
-            Deed::Hold(super::REPLACED)
         }
     }
 }
 
 // A delete of a version that no deletion covers.
-fn over_deleted(room: &[u8], of: Section, seek: Seek, v: u8) -> Deed
-    requires { Inside of room.now × (of.size ≡ 80) × IsPlaceOf seek of.count }
-    ensures { result ≡ over_deleted v (entry_of (entries_of of room.now) seek) }
+#[tactic(auto, unfolding(crate::specs::Taking::over_deleted, crate::specs::Line::version))]
+fn over_deleted(held: &Entries, seek: Result<usize, usize>, v: u8) -> Deed
+    requires { (held.now.of.size ≡ 80) × IsPlaceOf seek held.now.of.count }
+    ensures { result ≡ over_deleted v (entry_of (entries_of held.now.of held.now.bytes.now) seek) }
 {
     match seek {
-        Seek::Missing(_) => Deed::Note(v),
-        Seek::Found(i) => {
-            if entry_byte(room, of, i, 12) <= v {
-                return Deed::Wipe(v);
+        Err(_) => Deed::Note(v),
+        Ok(i) => {
+            if held.entry_byte(i, 12) <= v {
+                Deed::Wipe(v)
+            } else {
+                Deed::Note(v)
             }
-            Deed::Note(v)
         }
     }
 }
 
 // A delete with a blank version.
-fn over_blank(room: &[u8], of: Section, seek: Seek) -> Deed
-    requires { Inside of room.now × (of.size ≡ 80) × IsPlaceOf seek of.count }
-    ensures { result ≡ over_blank (entry_of (entries_of of room.now) seek) }
+#[tactic(auto, unfolding(crate::specs::Taking::over_blank, crate::specs::Line::version))]
+fn over_blank(held: &Entries, seek: Result<usize, usize>) -> Deed
+    requires { (held.now.of.size ≡ 80) × IsPlaceOf seek held.now.of.count }
+    ensures { result ≡ over_blank (entry_of (entries_of held.now.of held.now.bytes.now) seek) }
 {
     match seek {
-        Seek::Missing(_) => Deed::Leave(super::NOTHING_HELD),
-        Seek::Found(i) => {
-            let version = entry_byte(room, of, i, 12);
-            Deed::Wipe(version)
-        }
+        Err(_) => Deed::Leave(Ok(Effect::NothingHeld)),
+        Ok(i) => Deed::Wipe(held.entry_byte(i, 12)),
     }
 }
 
 // What a line does, by what was found.
+#[tactic(auto, unfolding(crate::specs::Taking::decide, crate::specs::Line::version))]
 pub fn decide(room: &[u8], f: Findings, notice: Notice, line: &[u8]) -> Deed
     requires { Placed room.now f × (13 ≤ length line.now) }
     ensures { result ≡ decide_by notice line.now (entry_of (entries_of f.deletions room.now) f.in_deletions) (entry_of (entries_of f.held room.now) f.in_held) }
 {
-    let held = f.held;
-    let in_held = f.in_held;
-    let deletions = f.deletions;
-    let in_deletions = f.in_deletions;
+    let version = line[12];
+    let held = Entries {
+        bytes: room,
+        of: f.held,
+    };
+    let deletions = Entries {
+        bytes: room,
+        of: f.deletions,
+    };
     match notice {
-        Notice::Event => {
-            if covered(room, deletions, in_deletions, line[12]) {
-                return Deed::Leave(super::OUTDATED);
-            }
-            over_held(room, held, in_held, line)
+        Notice::Blank => over_blank(&held, f.in_held),
+        Notice::Event | Notice::Delete if covered(&deletions, f.in_deletions, version) => {
+            Deed::Leave(Ok(Effect::Outdated))
         }
-        Notice::Delete => {
-            if covered(room, deletions, in_deletions, line[12]) {
-                return Deed::Leave(super::OUTDATED);
-            }
-            over_deleted(room, held, in_held, line[12])
-        }
-        Notice::Blank => over_blank(room, held, in_held),
+        Notice::Event => over_held(&held, f.in_held, line),
+        Notice::Delete => over_deleted(&held, f.in_held, version),
     }
 }
 
+// A new pair has no room: nothing is done, and a line that would do something is answered so.
+#[tactic(auto, unfolding(crate::specs::Taking::declined))]
 fn declined(deed: Deed) -> Deed
     ensures { result ≡ declined_by deed }
 {
     match deed {
-        Deed::Leave(n) => Deed::Leave(n),
-        Deed::Hold(_) => Deed::Leave(super::FULL),
-        Deed::Note(_) => Deed::Leave(super::FULL),
-        Deed::Wipe(_) => Deed::Leave(super::FULL),
-        Deed::Link(_) => Deed::Leave(super::FULL),
+        Deed::Leave(_) => deed,
+        Deed::Hold(_) | Deed::Note(_) | Deed::Wipe(_) | Deed::Link(_) => {
+            Deed::Leave(Err(Reason::Full.at(0)))
+        },
     }
 }
 
 // A new pair needs room.
-pub fn limited(named: usize, in_deletions: Seek, in_held: Seek, deed: Deed) -> Deed
+#[tactic(auto, unfolding(crate::specs::Taking::limited))]
+pub fn limited(
+    named: usize,
+    in_deletions: Result<usize, usize>,
+    in_held: Result<usize, usize>,
+    deed: Deed,
+) -> Deed
     ensures { (ds hs : List (List ℕ)) → result ≡ limited_to named (entry_of ds in_deletions) (entry_of hs in_held) deed }
 {
-    match in_deletions {
-        Seek::Found(_) => deed,
-        Seek::Missing(_) => match in_held {
-            Seek::Found(_) => deed,
-            Seek::Missing(_) => {
-                if PAIRS <= named {
-                    return declined(deed);
-                }
-                deed
-            }
-        },
+    match (in_deletions, in_held) {
+        (Err(_), Err(_)) if PAIRS <= named => declined(deed),
+        _ => deed,
     }
 }

@@ -1,6 +1,11 @@
 // The catalogue: one room of held E lines, deletions and links.
 #![tactic(auto)]
 
+ghost use Rattle.std.specs.Prelude.{◌≡◌};
+ghost use Rattle.catalogue.specs.Answers.{effect_number, call_number, call_column};
+
+use columns::Refusal;
+
 pub mod decide;
 pub mod desk;
 pub mod key;
@@ -26,49 +31,55 @@ pub const LINKS: usize = 64;
 // The version of a delete that has none.
 pub const BLANK: u8 = 32;
 
-// The numbers that the catalogue answers (document 01, "Numbers answered"): refusals, then what was taken.
-pub const FULL: u8 = 12;
+// What was done with a line.
+#[derive(Clone, Copy, PartialEq, Eq, Debug)]
+pub enum Effect {
+    Stored = 20,
+    Replaced = 21,
+    Repeated = 22,
+    Outdated = 23,
+    Removed = 24,
+    Noted = 25,
+    NothingHeld = 26,
+}
 
-pub const DISORDER: u8 = 13;
+// The number that is answered.
+impl From<Effect> for u8 {
+    ghost from_gives = { λ effect n. n ≡ effect_number effect };
 
-pub const LINKS_FULL: u8 = 16;
+    fn from(effect: Effect) -> u8 {
+        effect as u8
+    }
+}
 
-pub const STORED: u8 = 20;
-
-pub const REPLACED: u8 = 21;
-
-pub const REPEATED: u8 = 22;
-
-pub const OUTDATED: u8 = 23;
-
-pub const REMOVED: u8 = 24;
-
-pub const NOTED: u8 = 25;
-
-pub const NOTHING_HELD: u8 = 26;
-
+// The numbers of a look-up that found a held line, and of one that found none.
 pub const HELD: u8 = 27;
 
 pub const NOT_HELD: u8 = 28;
 
-// What a call answers: a number, and the column of a refused line.
-#[derive(Clone, Copy)]
-pub struct Call {
-    pub number: u8,
-    pub column: usize,
+// The number answered for a line: of what was done with it, or of its refusal.
+pub fn number_of(call: Result<Effect, Refusal>) -> u8
+    ensures { result ≡ call_number call }
+{
+    match call {
+        Ok(effect) => u8::from(effect),
+        Err(refusal) => u8::from(refusal.reason),
+    }
 }
 
-// What a look-up answers: a number, and the place of a held line.
-#[derive(Clone, Copy)]
-pub struct Looked {
-    pub number: u8,
-    pub place: usize,
+// The column answered for a line: of its refusal, or 0.
+pub fn column_of(call: Result<Effect, Refusal>) -> usize
+    ensures { result ≡ call_column call }
+{
+    match call {
+        Ok(_) => 0,
+        Err(refusal) => refusal.column,
+    }
 }
 
-// What a look-up by halving answers: a number, the place of a held line, and how many entries it examined.
-#[derive(Clone, Copy)]
+// What a look-up by halving found: the place of a held line, and how many entries it examined.
+#[derive(Clone, Copy, PartialEq, Eq, Debug)]
 pub struct Searched {
-    pub number: u8,
-    pub place: usize,
+    pub place: Option<usize>,
     pub examined: usize,
 }

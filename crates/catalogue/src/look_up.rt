@@ -4,19 +4,14 @@ ghost use Rattle.catalogue.specs.Line.{key_of};
 ghost use Rattle.catalogue.specs.Room.{contents};
 ghost use Rattle.catalogue.specs.Ordered.{Ordered};
 ghost use Rattle.catalogue.specs.Keys.{key_number};
-ghost use Rattle.catalogue.specs.LookUp.{looked, looked_in, look_up};
+ghost use Rattle.catalogue.specs.LookUp.{looked_in, look_up};
 
+use super::ROOM;
 use super::key::Key;
 use super::order::named_pairs;
 use super::room::held_in;
-use super::section::{Seek, look};
-use super::{Looked, PAIRS, ROOM};
-
-fn none(number: u8) -> Looked
-    ensures { result ≡ looked number 0 }
-{
-    Looked { number, place: 0 }
-}
+use super::section::Entries;
+use columns::Reason;
 
 // The key of a source and an identifier.
 fn key_by(source: &[u8], identifier: &[u8]) -> Key
@@ -31,36 +26,30 @@ fn key_by(source: &[u8], identifier: &[u8]) -> Key
     }
 }
 
-// A key in a room in order.
-fn look_in(room: &[u8], key: Key) -> Looked
+// The place of a key's held line in a room in order.
+fn look_in(room: &[u8], key: Key) -> Option<usize>
     requires { Ordered room.now }
     ensures { result ≡ looked_in (contents room.now) (key_number key) }
 {
-    let held = held_in(room);
-    match look(room, held, key) {
-        Seek::Found(place) => Looked {
-            number: super::HELD,
-            place,
-        },
-        Seek::Missing(_) => none(super::NOT_HELD),
-    }
+    let held = Entries {
+        bytes: room,
+        of: held_in(room),
+    };
+    held.look(key).ok()
 }
 
 // The held line of a source and an identifier, by its place.
-pub fn look_up(room: &[u8], source: &[u8], identifier: &[u8]) -> Looked
+pub fn look_up(room: &[u8], source: &[u8], identifier: &[u8]) -> Result<Option<usize>, Reason>
     ensures { result ≡ look_up room.now source.now identifier.now }
 {
     if room.len() < ROOM {
-        return none(columns::SHORT);
+        return Err(Reason::Short);
     }
-    if PAIRS < named_pairs(&room[0..ROOM]) {
-        return none(super::DISORDER);
+    if named_pairs(&room[..ROOM]).is_none() {
+        return Err(Reason::Disorder);
     }
-    if source.len() != 2 {
-        return none(formats::LENGTH);
+    if source.len() != 2 || identifier.len() != 8 {
+        return Err(Reason::Length);
     }
-    if identifier.len() != 8 {
-        return none(formats::LENGTH);
-    }
-    look_in(room, key_by(source, identifier))
+    Ok(look_in(room, key_by(source, identifier)))
 }

@@ -1,6 +1,5 @@
 // A section of a room: entries of one size after their count, ascending by a key.
-ghost use Rattle.std.specs.Prelude.{◌≡◌, [], ◌+◌, ◌*◌, ◌≤◌, ◌<◌, get_or};
-ghost use Rattle.columns.specs.Answer.{pick};
+ghost use Rattle.std.specs.Prelude.{◌≡◌, [], ◌+◌, ◌*◌, ◌≤◌, ◌<◌, get_or, length};
 ghost use Rattle.catalogue.specs.Assoc.{below, AscFrom};
 ghost use Rattle.catalogue.specs.Good.{ascends};
 ghost use Rattle.catalogue.specs.Keys.{key_number};
@@ -20,114 +19,120 @@ pub struct Section {
     pub typed: bool,
 }
 
-// What a search for a key finds: its place, or the place where it would stand.
+// The entries of a section, in bytes in which it lies.
 #[derive(Clone, Copy)]
-pub enum Seek {
-    Found(usize),
-    Missing(usize),
+pub struct Entries<'a> {
+    pub bytes: &'a [u8],
+    pub of: Section,
+    pub ghost inside: { Inside of bytes.now },
 }
 
-// Where an entry stands.
-pub fn entry_at(s: &[u8], of: Section, i: usize) -> usize
-    requires { Inside of s.now × (i ≤ of.count) }
-    ensures { result ≡ of.at + 2 + of.size * i }
-{
-    of.at + 2 + of.size * i
-}
-
-// A byte of an entry.
-pub fn entry_byte(s: &[u8], of: Section, i: usize, j: usize) -> u8
-    requires { Inside of s.now × (i < of.count) × (j < of.size) }
-    ensures { result ≡ get_or (get_or (entries_of of s.now) i []) j 0 }
-{
-    let at = entry_at(s, of, i);
-    s[at + j]
-}
-
-// The key of an entry.
-pub fn key_of(s: &[u8], of: Section, i: usize) -> Key
-    requires { Inside of s.now × (i < of.count) }
-    ensures { key_number result ≡ key_of_entry of (get_or (entries_of of s.now) i []) }
-{
-    let at = entry_at(s, of, i);
-    key_at(s, at + of.source, at + of.identifier, of.typed)
-}
-
-fn choose(t: bool, a: usize, b: usize) -> usize
-    ensures { result ≡ pick t a b }
-{
-    if t {
-        return a;
+impl<'a> Entries<'a> {
+    // Where an entry stands.
+    #[inline(always)]
+    pub fn entry_at(&self, i: usize) -> usize
+        requires { i ≤ self.now.of.count }
+        ensures { result ≡ self.now.of.at + 2 + self.now.of.size * i }
+    {
+        self.of.at + 2 + self.of.size * i
     }
-    b
-}
 
-// How many entries have a key below the given one: by halving the stretch that can hold the place.
-fn place(s: &[u8], of: Section, key: Key) -> usize
-    requires { Inside of s.now × AscFrom (key_of_entry of) 0 (entries_of of s.now) }
-    ensures { result ≡ below (key_of_entry of) (key_number key) (entries_of of s.now) }
-{
-    let mut low = 0;
-    let mut high = of.count;
-    while low < high {
-        let mid = low + (high - low) / 2;
-        let less = before(key_of(s, of, mid), key);
-        low = choose(less, mid + 1, low);
-        high = choose(less, high, mid);
+    // The bytes of an entry.
+    #[inline(always)]
+    pub fn entry(&self, i: usize) -> &'a [u8]
+        requires { i < self.now.of.count }
+        ensures { (result.now ≡ get_or (entries_of self.now.of self.now.bytes.now) i []) × (length result.now ≡ self.now.of.size) }
+    {
+        let at = self.entry_at(i);
+        &self.bytes[at..at + self.of.size]
     }
-    low
-}
 
-// The same by a walk from a place that is not past it.
-pub fn advance(s: &[u8], of: Section, from: usize, key: Key) -> usize
-    requires { Inside of s.now × AscFrom (key_of_entry of) 0 (entries_of of s.now) × (from ≤ below (key_of_entry of) (key_number key) (entries_of of s.now)) }
-    ensures { result ≡ below (key_of_entry of) (key_number key) (entries_of of s.now) }
-{
-    let mut j = from;
-    while j < of.count {
-        if before(key_of(s, of, j), key) {
-            j += 1;
+    // A byte of an entry.
+    #[inline(always)]
+    pub fn entry_byte(&self, i: usize, j: usize) -> u8
+        requires { (i < self.now.of.count) × (j < self.now.of.size) }
+        ensures { result ≡ get_or (get_or (entries_of self.now.of self.now.bytes.now) i []) j 0 }
+    {
+        self.entry(i)[j]
+    }
+
+    // The key of an entry.
+    #[inline(always)]
+    pub fn key_of(&self, i: usize) -> Key
+        requires { i < self.now.of.count }
+        ensures { key_number result ≡ key_of_entry self.now.of (get_or (entries_of self.now.of self.now.bytes.now) i []) }
+    {
+        key_at(
+            self.entry(i),
+            self.of.source,
+            self.of.identifier,
+            self.of.typed,
+        )
+    }
+
+    // How many entries have a key below the given one: by halving the stretch that can hold the place.
+    fn place(&self, key: Key) -> usize
+        requires { AscFrom (key_of_entry self.now.of) 0 (entries_of self.now.of self.now.bytes.now) }
+        ensures { result ≡ below (key_of_entry self.now.of) (key_number key) (entries_of self.now.of self.now.bytes.now) }
+    {
+        let mut low = 0;
+        let mut high = self.of.count;
+        while low < high {
+            let mid = low + (high - low) / 2;
+            if before(self.key_of(mid), key) {
+                low = mid + 1;
+            } else {
+                high = mid;
+            }
+        }
+        low
+    }
+
+    // The same by a walk from a place that is not past it.
+    #[inline(always)]
+    pub fn advance(&self, from: usize, key: Key) -> usize
+        requires { AscFrom (key_of_entry self.now.of) 0 (entries_of self.now.of self.now.bytes.now) × (from ≤ below (key_of_entry self.now.of) (key_number key) (entries_of self.now.of self.now.bytes.now)) }
+        ensures { result ≡ below (key_of_entry self.now.of) (key_number key) (entries_of self.now.of self.now.bytes.now) }
+    {
+        for j in from..self.of.count {
+            if !before(self.key_of(j), key) {
+                return j;
+            }
+        }
+        self.of.count
+    }
+
+    // Whether the entry at the key's place has the key: its place, or the place where it would stand.
+    #[inline(always)]
+    pub fn met(&self, i: usize, key: Key) -> Result<usize, usize>
+        requires { i ≡ below (key_of_entry self.now.of) (key_number key) (entries_of self.now.of self.now.bytes.now) }
+        ensures { Sought (key_of_entry self.now.of) (key_number key) (entries_of self.now.of self.now.bytes.now) result }
+    {
+        if i < self.of.count && equal(self.key_of(i), key) {
+            Ok(i)
         } else {
-            return j;
+            Err(i)
         }
     }
-    j
-}
 
-// Whether the entry at the key's place has the key.
-pub fn met(s: &[u8], of: Section, i: usize, key: Key) -> Seek
-    requires { Inside of s.now × (i ≡ below (key_of_entry of) (key_number key) (entries_of of s.now)) }
-    ensures { Sought (key_of_entry of) (key_number key) (entries_of of s.now) result }
-{
-    if of.count <= i {
-        return Seek::Missing(i);
+    // Looks for a key, as a slice's `binary_search` does.
+    pub fn look(&self, key: Key) -> Result<usize, usize>
+        requires { AscFrom (key_of_entry self.now.of) 0 (entries_of self.now.of self.now.bytes.now) }
+        ensures { Sought (key_of_entry self.now.of) (key_number key) (entries_of self.now.of self.now.bytes.now) result }
+    {
+        self.met(self.place(key), key)
     }
-    if equal(key_of(s, of, i), key) {
-        return Seek::Found(i);
-    }
-    Seek::Missing(i)
-}
 
-pub fn look(s: &[u8], of: Section, key: Key) -> Seek
-    requires { Inside of s.now × AscFrom (key_of_entry of) 0 (entries_of of s.now) }
-    ensures { Sought (key_of_entry of) (key_number key) (entries_of of s.now) result }
-{
-    let i = place(s, of, key);
-    met(s, of, i, key)
-}
-
-// Whether the keys ascend strictly.
-pub fn ascending(s: &[u8], of: Section) -> bool
-    requires { Inside of s.now }
-    ensures { result ≡ ascends (key_of_entry of) 0 (entries_of of s.now) }
-{
-    let mut i = 1;
-    while i < of.count {
-        if before(key_of(s, of, i - 1), key_of(s, of, i)) {
-            i += 1;
-        } else {
-            return false;
+    // Whether the keys ascend strictly.
+    #[inline(always)]
+    pub fn ascending(&self) -> bool
+        ensures { result ≡ ascends (key_of_entry self.now.of) 0 (entries_of self.now.of self.now.bytes.now) }
+    {
+        for i in 1..self.of.count {
+            if !before(self.key_of(i - 1), self.key_of(i)) {
+                return false;
+            }
         }
+        true
     }
-    true
 }

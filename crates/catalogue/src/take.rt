@@ -8,48 +8,23 @@ ghost use Rattle.catalogue.specs.Taking.{deed_of};
 ghost use Rattle.catalogue.specs.Room.{room_size, encode, contents, room_after};
 ghost use Rattle.catalogue.specs.Ordered.{Ordered};
 ghost use Rattle.catalogue.specs.Places.{end_of, deletions_in, links_in};
-ghost use Rattle.catalogue.specs.Findings.{notice_kind, notice_of, refused_call, Known, Notable, one_more_named, named_after, Took};
+ghost use Rattle.catalogue.specs.Findings.{notice_kind, Known, Notable, one_more_named, named_after, Took};
 
-use super::Call;
+use super::Effect;
 use super::decide::{Deed, Findings, Notice, decide, limited, look_both};
 use super::key::triple_at;
 use super::link::{limited_link, link_entry, over_link, store_link};
 use super::moves::{put, take_out};
 use super::room::{deletions_in, end_of, held_in, links_in};
-use super::section::{Section, Seek, look};
-use formats::cube::{EVENT, LINK, Read, read_line};
+use super::section::{Entries, Section};
+use columns::Refusal;
+use formats::cube::{Parts, read_line};
 
 // What a line taken into a room in order answers, and how many pairs are named after it.
 #[derive(Clone, Copy)]
 pub struct Receipt {
-    pub call: Call,
+    pub call: Result<Effect, Refusal>,
     pub named: usize,
-}
-
-// By the kind of record that was read, which is no link, and the line's version.
-fn notice_of(kind: u8, version: u8) -> Notice
-    ensures { result ≡ notice_of kind version }
-{
-    if kind == EVENT {
-        return Notice::Event;
-    }
-    if version == super::BLANK {
-        return Notice::Blank;
-    }
-    Notice::Delete
-}
-
-// The number and column of a refused line.
-fn refused(read: Read) -> Call
-    ensures { result ≡ refused_call read }
-{
-    match read {
-        Read::Refused(number, column) => Call { number, column },
-        Read::There(_, _, _, _) => Call {
-            number: 0,
-            column: 0,
-        },
-    }
 }
 
 // A deletion's bytes: the line's source and identifier, and a version.
@@ -68,12 +43,11 @@ fn used_in(room: &[u8], deletions: Section) -> usize
     requires { Ordered room.now × (deletions ≡ deletions_in room.now) }
     ensures { result ≡ end_of (links_in room.now) }
 {
-    let links = links_in(room, deletions);
-    end_of(room, links)
+    end_of(room, links_in(room, deletions))
 }
 
 // The pair's deletion becomes a version; `seek` is its place among the deletions.
-fn note(room: &mut [u8], deletions: Section, seek: Seek, v: u8, line: &[u8])
+fn note(room: &mut [u8], deletions: Section, seek: Result<usize, usize>, v: u8, line: &[u8])
     requires { Ordered room.old × (deletions ≡ deletions_in room.old) × Notable room.old line.now v seek }
     ensures { room.new ≡ encode (with_deletions (contents room.old) (put_in deletion_key (deletion_of line.now v) (contents room.old).deletions)) ++ drop room_size room.old }
 {
@@ -87,17 +61,13 @@ fn wipe(room: &mut [u8], f: Findings, v: u8, line: &[u8])
     requires { Ordered room.old × Known room.old line.now f × (deed_of (contents room.old) line.now ≡ Deed.Wipe v) }
     ensures { room.new ≡ room_after room.old line.now }
 {
-    let held = f.held;
-    let deletions = f.deletions;
-    let in_held = f.in_held;
-    let in_deletions = f.in_deletions;
-    let Seek::Found(i) = in_held else {
+    let Ok(i) = f.in_held else {
         return;
     };
-    let used = used_in(room, deletions);
-    take_out(room, held, used, i);
+    let used = used_in(room, f.deletions);
+    take_out(room, f.held, used, i);
     let rest = deletions_in(room, held_in(room));
-    note(room, rest, in_deletions, v, line);
+    note(room, rest, f.in_deletions, v, line);
 }
 
 // Does what was decided of a line about a pair.
@@ -105,63 +75,58 @@ fn carry_out(room: &mut [u8], f: Findings, deed: Deed, line: &[u8])
     requires { Ordered room.old × Known room.old line.now f × (deed ≡ deed_of (contents room.old) line.now) × (kind line.now ≡ link → ⊥) }
     ensures { room.new ≡ room_after room.old line.now }
 {
-    let held = f.held;
-    let deletions = f.deletions;
-    let in_held = f.in_held;
-    let in_deletions = f.in_deletions;
     match deed {
         Deed::Leave(_) => {}
         Deed::Hold(_) => {
-            let used = used_in(room, deletions);
-            put(room, held, used, in_held, line);
+            let used = used_in(room, f.deletions);
+            put(room, f.held, used, f.in_held, line);
         }
-        Deed::Note(v) => {
-            note(room, deletions, in_deletions, v, line);
-        }
-        Deed::Wipe(v) => {
-            wipe(room, f, v, line);
-        }
+        Deed::Note(v) => note(room, f.deletions, f.in_deletions, v, line),
+        Deed::Wipe(v) => wipe(room, f, v, line),
         Deed::Link(_) => {}
     }
 }
 
-fn answer_of(deed: Deed) -> u8
+// What is answered for a deed.
+fn answer_of(deed: Deed) -> Result<Effect, Refusal>
     ensures { result ≡ answered deed }
 {
     match deed {
-        Deed::Leave(n) => n,
-        Deed::Hold(n) => n,
-        Deed::Note(_) => super::NOTED,
-        Deed::Wipe(_) => super::REMOVED,
-        Deed::Link(n) => n,
+        Deed::Leave(call) => call,
+        Deed::Hold(effect) | Deed::Link(effect) => Ok(effect),
+        Deed::Note(_) => Ok(Effect::Noted),
+        Deed::Wipe(_) => Ok(Effect::Removed),
     }
 }
 
 // One pair more where it was in no section.
-fn one_more(in_held: Seek, in_deletions: Seek, named: usize) -> usize
+fn one_more(
+    in_held: Result<usize, usize>,
+    in_deletions: Result<usize, usize>,
+    named: usize,
+) -> usize
     requires { named ≤ 512 }
     ensures { result ≡ one_more_named in_held in_deletions named }
 {
-    match in_held {
-        Seek::Found(_) => named,
-        Seek::Missing(_) => match in_deletions {
-            Seek::Found(_) => named,
-            Seek::Missing(_) => named + 1,
-        },
+    match (in_held, in_deletions) {
+        (Err(_), Err(_)) => named + 1,
+        _ => named,
     }
 }
 
 // How many pairs are named after a deed.
-fn named_after(deed: Deed, in_held: Seek, in_deletions: Seek, named: usize) -> usize
+fn named_after(
+    deed: Deed,
+    in_held: Result<usize, usize>,
+    in_deletions: Result<usize, usize>,
+    named: usize,
+) -> usize
     requires { named ≤ 512 }
     ensures { result ≡ named_after deed in_held in_deletions named }
 {
     match deed {
-        Deed::Leave(_) => named,
-        Deed::Hold(_) => one_more(in_held, in_deletions, named),
-        Deed::Note(_) => one_more(in_held, in_deletions, named),
-        Deed::Wipe(_) => one_more(in_held, in_deletions, named),
-        Deed::Link(_) => named,
+        Deed::Leave(_) | Deed::Link(_) => named,
+        Deed::Hold(_) | Deed::Note(_) | Deed::Wipe(_) => one_more(in_held, in_deletions, named),
     }
 }
 
@@ -171,16 +136,16 @@ fn take_notice(room: &mut [u8], named: usize, notice: Notice, line: &[u8]) -> Re
     ensures { Took room.old line.now room.new result }
 {
     let f = look_both(room, notice, line);
-    let in_held = f.in_held;
-    let in_deletions = f.in_deletions;
-    let deed = limited(named, in_deletions, in_held, decide(room, f, notice, line));
+    let deed = limited(
+        named,
+        f.in_deletions,
+        f.in_held,
+        decide(room, f, notice, line),
+    );
     carry_out(room, f, deed, line);
     Receipt {
-        call: Call {
-            number: answer_of(deed),
-            column: 0,
-        },
-        named: named_after(deed, in_held, in_deletions, named),
+        call: answer_of(deed),
+        named: named_after(deed, f.in_held, f.in_deletions, named),
     }
 }
 
@@ -189,16 +154,14 @@ fn take_link(room: &mut [u8], named: usize, line: &[u8]) -> Receipt
     requires { Ordered room.old × (named ≡ named_of (contents room.old)) × (kind line.now ≡ link) }
     ensures { Took room.old line.now room.new result }
 {
-    let links = links_in(room, deletions_in(room, held_in(room)));
+    let of = links_in(room, deletions_in(room, held_in(room)));
+    let links = Entries { bytes: room, of };
     let entry = link_entry(line);
-    let seek = look(room, links, triple_at(&entry, 11, 3));
-    let deed = limited_link(links.count, seek, over_link(room, links, seek, &entry));
-    store_link(room, links, seek, deed, line, &entry);
+    let seek = links.look(triple_at(&entry, 11, 3));
+    let deed = limited_link(of.count, seek, over_link(&links, seek, &entry));
+    store_link(room, of, seek, deed, line, &entry);
     Receipt {
-        call: Call {
-            number: answer_of(deed),
-            column: 0,
-        },
+        call: answer_of(deed),
         named,
     }
 }
@@ -212,14 +175,18 @@ pub fn take_ordered(room: &mut [u8], named: usize, line: &[u8]) -> Receipt
     let mut values = [0i64; 19];
     let mut text = [0u8; 96];
     let read = read_line(line, &mut flags, &mut values, &mut text);
-    let Read::There(kind, _, _, _) = read else {
+    let Ok(parts) = read else {
         return Receipt {
-            call: refused(read),
+            call: Err(read.unwrap_err()),
             named,
         };
     };
-    if kind == LINK {
-        return take_link(room, named, line);
+    match parts {
+        Parts::Link { .. } => take_link(room, named, line),
+        Parts::Event => take_notice(room, named, Notice::Event, line),
+        Parts::Delete { .. } if line[12] == super::BLANK => {
+            take_notice(room, named, Notice::Blank, line)
+        }
+        Parts::Delete { .. } => take_notice(room, named, Notice::Delete, line),
     }
-    take_notice(room, named, notice_of(kind, line[12]), line)
 }

@@ -14,7 +14,6 @@ pub mod Calendar
 pub mod Ranges
 pub mod GroupBack
 pub mod Cursor
-pub mod Rules
 pub mod Table
 pub mod Reader
 pub mod Puts

@@ -1,5 +1,5 @@
 -- The bytes of a line. Document 01, "Numbers in columns": text bytes are codes 32 to 126, any other byte is barred.
-use Rattle.std.specs.Prelude.{◌≡◌, ℕ, ◌+◌, ◌<◌, List, [], ◌∷◌, Bool, true, false, ◌&&◌, leb, eqb, get_or}
+use Rattle.std.specs.Prelude.{◌≡◌, ℕ, ◌+◌, ◌<◌, List, [], ◌∷◌, Bool, true, false, ◌&&◌, leb, eqb, get_or, Option, Some, None}
 use Rattle.columns.specs.Answer.{pick}
 
 abbrev pub is_text : ℕ → Bool
@@ -50,6 +50,10 @@ unfoldable pub barred : ℕ → ℕ → ℕ → List ℕ → ℕ
 barred from to column [] = 0
 barred from to column (b ∷ s) =
     pick (is_allowed (inside from to column) b) (barred from to (column + 1) s) column
+
+-- the column, where there is one
+abbrev pub found : ℕ → Option ℕ
+found k = pick (eqb k 0) None (Some k)
 
 -- none of the first n bytes is barred
 abbrev pub Free : ℕ → ℕ → ℕ → ℕ → List ℕ → Type 0

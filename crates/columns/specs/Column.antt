@@ -9,6 +9,8 @@ use Rattle.columns.specs.declared.number.Field.{Field}
 use Rattle.columns.specs.declared.number.Field.TheVariants as F
 use Rattle.columns.specs.declared.number.Form.{Form}
 use Rattle.columns.specs.declared.number.Form.TheVariants as N
+pub use Rattle.columns.specs.declared.column.Rule.{Rule}
+use Rattle.columns.specs.declared.column.Rule.TheVariants as U
 use Rattle.columns.specs.declared.group.Part.{Part}
 use Rattle.columns.specs.declared.group.Group.{Group}
 
@@ -74,14 +76,22 @@ required = true
 abbrev pub optional : Bool
 optional = false
 
--- what a text may be: any text; with no brackets (document 01, "The E line"); not beginning with a blank ("The phase line"); not all
--- blank; all blank, or not beginning with a blank (document 02, Wish 2: station and network)
-pub data Rule : Type 0 where
-  any_text : Rule
-  no_brackets : Rule
-  not_blank_first : Rule
-  not_all_blank : Rule
-  blank_or_filled : Rule
+-- what a text may be, `Rule`: any text; with no brackets (document 01, "The E line"); not beginning with a blank ("The phase line"); not
+-- all blank; all blank, or not beginning with a blank (document 02, Wish 2: station and network)
+abbrev pub any_text : Rule
+any_text = U.AnyText
+
+abbrev pub no_brackets : Rule
+no_brackets = U.NoBrackets
+
+abbrev pub not_blank_first : Rule
+not_blank_first = U.NotBlankFirst
+
+abbrev pub not_all_blank : Rule
+not_all_blank = U.NotAllBlank
+
+abbrev pub blank_or_filled : Rule
+blank_or_filled = U.BlankOrFilled
 
 -- a number; text; a letter of a set; a group; columns that all hold one printed byte
 pub data Col : Type 0 where
@@ -206,11 +216,11 @@ all_texts (c ∷ cs) = texts c + all_texts cs
 -- ---- brackets
 
 abbrev pub rule_bars : Rule → Bool
-rule_bars any_text = false
-rule_bars no_brackets = true
-rule_bars not_blank_first = false
-rule_bars not_all_blank = false
-rule_bars blank_or_filled = false
+rule_bars U.AnyText = false
+rule_bars U.NoBrackets = true
+rule_bars U.NotBlankFirst = false
+rule_bars U.NotAllBlank = false
+rule_bars U.BlankOrFilled = false
 
 -- whether a column bars brackets
 abbrev pub bars_of : Col → Bool

@@ -1,17 +1,20 @@
 -- A list of columns cut at a place: lines that end before some columns of their record, which are left out of them. Document 02,
 -- Wish 7.
-use Rattle.std.specs.Prelude.{ℕ, ◌+◌, ◌≤◌, ◌≡◌, List, [], ◌∷◌, ◌++◌, Bool, true, not, ◌&&◌, length, take, drop, replicate, eqb}
+use Rattle.std.specs.Prelude.{ℕ, ◌+◌, ◌-◌, ◌≤◌, ◌≡◌, List, [], ◌∷◌, ◌++◌, Bool, true, not, ◌&&◌, length, take, drop, replicate, eqb}
 use Rattle.columns.specs.Answer.{pick, Answer, ok, refusal, unless, differs, bad_form}
 use Rattle.columns.specs.Bytes.{all_blank, member}
 use Rattle.columns.specs.Column.{Slot, missing, Rec, joined, Col, numeric, text, letter, group, printed, width, slots, texts, widths, all_slots, all_texts}
 use Rattle.columns.specs.Writing.{in_place, write_columns}
 use Rattle.columns.specs.Row.{all_same, whole, fills_text}
-use Rattle.columns.specs.Table.{Table}
+use Rattle.columns.specs.Table.{columns_of, Table}
+use Rattle.columns.specs.declared.Reason.{Reason}
+use Rattle.columns.specs.declared.Reason.TheVariants as R
+use Rattle.columns.specs.declared.column.Layout.{Layout}
 use Rattle.columns.specs.declared.row.Past.{Past}
 
 -- a filled field that a line has no columns for
-abbrev pub field_dropped : ℕ
-field_dropped = 17
+abbrev pub field_dropped : Reason
+field_dropped = R.Dropped
 
 -- ---- read: what the columns left out have in the record, numbers missing and text blank
 
@@ -69,9 +72,16 @@ all_may_be_blank (c ∷ cs) = may_be_blank c && all_may_be_blank cs
 abbrev pub past_of : List Col → List Col → Past
 past_of cs bs = record { rows = length bs; numbers = all_slots cs; texts = all_texts cs }
 
--- a table with rows for both up to `rows`, those of bs from row `next` on, and a record of nf numbers and nt text bytes with room for both
-pub record Writable (cs bs : List Col) (past : Past) (next rows width nf nv nt : ℕ) : Type 0 where
+-- of a table with rows for both, the columns of the line, and those past its end
+abbrev pub line_part : Layout → Past → List Col
+line_part x past = columns_of (take (length x.rows.now - past.rows) x.rows.now) x.ranges.now x.letters.now
+
+abbrev pub past_part : Layout → Past → List Col
+past_part x past = columns_of (drop (length x.rows.now - past.rows) x.rows.now) x.ranges.now x.letters.now
+
+-- a table of some rows for both, and a record of nf numbers and nt text bytes with room for both
+pub record Writable (cs bs : List Col) (past : Past) (rows width nf nv nt : ℕ) : Type 0 where
   pub table : Table (cs ++ bs) 0 512 0 nf nv 0 nt
   pub past_is : past ≡ past_of cs bs
-  pub inside : next + past.rows ≤ rows
+  pub inside : past.rows ≤ rows
   pub wide : width ≡ widths cs

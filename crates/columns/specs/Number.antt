@@ -1,10 +1,8 @@
 -- Number fields iW and fW.D, over the bytes in their columns. Document 01, "Numbers in columns".
-use Rattle.std.specs.Prelude.{◌≡◌, ℕ, zero, suc, ◌+◌, ◌-◌, ◌*◌, ◌/◌, ◌%◌, ◌^◌, ◌<◌, List, [], ◌∷◌, ◌++◌, Bool, true, false, ◌&&◌, ℤ, pos, negsuc, neg_ℤ, nat_abs, leb, ltb, eqb, length, take, drop, replicate}
+use Rattle.std.specs.Prelude.{◌≡◌, ℕ, zero, suc, ◌+◌, ◌-◌, ◌*◌, ◌/◌, ◌%◌, ◌^◌, ◌<◌, List, [], ◌∷◌, ◌++◌, Bool, true, false, ◌&&◌, ℤ, pos, negsuc, neg_ℤ, nat_abs, leb, ltb, eqb, length, take, drop, replicate, Option, Some, None}
 use Rattle.std.specs.Int.Signed.{lt_z}
 use Rattle.columns.specs.Answer.{pick}
 use Rattle.columns.specs.Bytes.{is_digit, trim, all_blank}
-use Rattle.columns.specs.declared.number.Digits.{Digits}
-use Rattle.columns.specs.declared.number.Digits.TheVariants as D
 use Rattle.columns.specs.declared.number.Scan.{Scan}
 use Rattle.columns.specs.declared.number.Scan.TheVariants as S
 use Rattle.columns.specs.declared.number.Field.{Field}
@@ -18,18 +16,18 @@ use Rattle.columns.specs.declared.written.Pen.{Pen}
 -- ---- read
 
 -- n followed by the digits of s, and nothing but digits
-unfoldable pub digits : ℕ → List ℕ → Digits
-digits n [] = D.Number n
-digits n (b ∷ s) = pick (is_digit b) (digits (n * 10 + (b - 48)) s) D.NoNumber
+unfoldable pub digits : ℕ → List ℕ → Option ℕ
+digits n [] = Some n
+digits n (b ∷ s) = pick (is_digit b) (digits (n * 10 + (b - 48)) s) None
 
 -- one or more digits
-unfoldable pub number : List ℕ → Digits
-number [] = D.NoNumber
+unfoldable pub number : List ℕ → Option ℕ
+number [] = None
 number (b ∷ s) = digits 0 (b ∷ s)
 
-abbrev pub with_sign : Bool → Digits → Scan
-with_sign minus (D.Number n) = S.Number minus n
-with_sign minus D.NoNumber = S.Malformed
+abbrev pub with_sign : Bool → Option ℕ → Scan
+with_sign minus (Some n) = S.Number minus n
+with_sign minus None = S.Malformed
 
 -- an optional minus, then digits
 unfoldable pub signed_number : List ℕ → Scan

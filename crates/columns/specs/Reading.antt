@@ -4,8 +4,10 @@ use Rattle.std.specs.Prelude.{ℕ, ◌+◌, ◌-◌, List, [], ◌∷◌, ◌++�
 use Rattle.columns.specs.Answer.{pick, Answer, ok, refusal, unless, chain, not_blank, required_blank, bad_form, out_of_range, wrong_letter}
 use Rattle.columns.specs.Bytes.{is_none, skip, all_blank, member}
 use Rattle.columns.specs.Number.{field_of}
-use Rattle.columns.specs.Column.{Slot, missing, given, Rec, joined, allowed, Rule, any_text, no_brackets, not_blank_first, not_all_blank, blank_or_filled, Col, numeric, text, letter, group, printed, width}
+use Rattle.columns.specs.declared.column.Rule.TheVariants as U
+use Rattle.columns.specs.Column.{Slot, missing, given, Rec, joined, allowed, Rule, Col, numeric, text, letter, group, printed, width}
 use Rattle.columns.specs.Group.{group_field, judge_group}
+use Rattle.columns.specs.declared.Reason.{Reason}
 use Rattle.columns.specs.declared.number.Field.{Field}
 use Rattle.columns.specs.declared.number.Field.TheVariants as F
 
@@ -26,19 +28,19 @@ judge q fits at (F.Value v) = pick (fits v) (ok (one_number (given v))) (refusal
 
 -- text that its rule refuses; a bracket is found with the line's barred bytes
 abbrev pub rule_refuses : Rule → List ℕ → Bool
-rule_refuses any_text f = false
-rule_refuses no_brackets f = false
-rule_refuses not_blank_first f = eqb (get_or f 0 0) 32
-rule_refuses not_all_blank f = all_blank f
-rule_refuses blank_or_filled f = pick (eqb (get_or f 0 0) 32) (not (all_blank f)) false
+rule_refuses U.AnyText f = false
+rule_refuses U.NoBrackets f = false
+rule_refuses U.NotBlankFirst f = eqb (get_or f 0 0) 32
+rule_refuses U.NotAllBlank f = all_blank f
+rule_refuses U.BlankOrFilled f = pick (eqb (get_or f 0 0) 32) (not (all_blank f)) false
 
 -- required and blank 5; form 6, in place of 5 (document 02, Wish 2)
-abbrev pub rule_number : Rule → ℕ
-rule_number any_text = required_blank
-rule_number no_brackets = required_blank
-rule_number not_blank_first = required_blank
-rule_number not_all_blank = required_blank
-rule_number blank_or_filled = bad_form
+abbrev pub rule_number : Rule → Reason
+rule_number U.AnyText = required_blank
+rule_number U.NoBrackets = required_blank
+rule_number U.NotBlankFirst = required_blank
+rule_number U.NotAllBlank = required_blank
+rule_number U.BlankOrFilled = bad_form
 
 abbrev pub judge_text : Rule → ℕ → List ℕ → Answer (List ℕ) → Answer (List ℕ)
 judge_text r at f o = unless (rule_refuses r f) (rule_number r) (at + 1) o

@@ -2,7 +2,8 @@
 -- Document 01, "The phase line", which the formats added later follow ("The block").
 use Rattle.std.specs.Prelude.{ℕ, ◌+◌, ◌*◌, ◌≤◌, ◌<◌, List, [], ◌∷◌, Bool, true, false, ◌&&◌, nat_abs, take, drop, T, eqb, leb, ltb}
 use Rattle.columns.specs.Answer.{pick, Answer, refusal, bad_form}
-use Rattle.columns.specs.Column.{Slot, missing, given, Rule, any_text, no_brackets, not_blank_first, not_all_blank, blank_or_filled, Col, numeric, text, letter, group, printed, slots, widths, all_slots, all_texts}
+use Rattle.columns.specs.declared.column.Rule.TheVariants as U
+use Rattle.columns.specs.Column.{Slot, missing, given, Rule, Col, numeric, text, letter, group, printed, slots, widths, all_slots, all_texts}
 use Rattle.columns.specs.Writing.{write_line}
 use Rattle.columns.specs.Table.{sizes_of, sound, Sound}
 
@@ -40,11 +41,11 @@ SmallSlots (x ∷ ns) = SmallSlot x × SmallSlots ns
 
 -- a text of w bytes whose first is no blank, or whose first two are both blanks
 abbrev pub opens_text : ℕ → Rule → Bool
-opens_text w any_text = false
-opens_text w no_brackets = false
-opens_text w not_blank_first = true
-opens_text w not_all_blank = false
-opens_text w blank_or_filled = leb 2 w
+opens_text w U.AnyText = false
+opens_text w U.NoBrackets = false
+opens_text w U.NotBlankFirst = true
+opens_text w U.NotAllBlank = false
+opens_text w U.BlankOrFilled = leb 2 w
 
 abbrev pub opens : Col → Bool
 opens (numeric m q g) = false
@@ -60,11 +61,11 @@ opens_row (c ∷ cs) = opens c
 
 -- a column that may not be blank
 abbrev pub fills_text : Rule → Bool
-fills_text any_text = false
-fills_text no_brackets = false
-fills_text not_blank_first = true
-fills_text not_all_blank = true
-fills_text blank_or_filled = false
+fills_text U.AnyText = false
+fills_text U.NoBrackets = false
+fills_text U.NotBlankFirst = true
+fills_text U.NotAllBlank = true
+fills_text U.BlankOrFilled = false
 
 abbrev pub fills : Col → Bool
 fills (numeric m q g) = q

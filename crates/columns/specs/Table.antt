@@ -1,27 +1,17 @@
 -- A list of columns as a table of flat numbers, a record as flat arrays, and what the table's reader and writers owe. The table and
 -- the arrays are helping definitions about the code; what a call owes is document 01's, "Numbers answered", "What each call owes".
-use Rattle.std.specs.Prelude.{ℕ, zero, suc, ◌+◌, ◌/◌, ◌%◌, ◌≤◌, ◌≡◌, List, [], ◌∷◌, ◌++◌, Bool, true, ◌&&◌, ℤ, pos, length, take, drop, get_or, T, eqb, leb, ltb}
+use Rattle.std.specs.Prelude.{ℕ, zero, suc, ◌+◌, ◌/◌, ◌%◌, ◌≤◌, ◌≡◌, List, [], ◌∷◌, ◌++◌, Bool, true, ◌&&◌, ℤ, pos, length, take, drop, get_or, T, eqb, leb, ltb, Result, Ok, Err, ⊤}
 use Rattle.std.proofs.Math.Seq.{slice}
-use Rattle.columns.specs.Answer.{pick, Answer, ok, refusal}
-use Rattle.columns.specs.Column.{Slot, missing, given, Rec, Range, as_held, not_negative, calendar_day, span, Rule, any_text, no_brackets, not_blank_first, not_all_blank, blank_or_filled, clock_time, calendar_date, group_width, Col, numeric, text, letter, group, printed, width, slots, texts, good_col, good, widths, all_slots, all_texts, in_stretch, brackets_in}
-use Rattle.columns.specs.declared.number.Form.{Form}
+use Rattle.columns.specs.Answer.{pick, Answer, ok, refusal, refusal_at}
+use Rattle.columns.specs.Number.{form_width}
+use Rattle.columns.specs.declared.column.Rule.TheVariants as U
+use Rattle.columns.specs.Column.{Slot, missing, given, Rec, Range, as_held, not_negative, calendar_day, span, Rule, clock_time, calendar_date, group_width, Col, numeric, text, letter, group, printed, width, slots, texts, good_col, good, widths, all_slots, all_texts, in_stretch, brackets_in}
 use Rattle.columns.specs.declared.number.Form.TheVariants as N
 use Rattle.columns.specs.declared.group.Group.{Group}
 use Rattle.columns.specs.declared.column.Column.{Column}
-use Rattle.columns.specs.declared.Outcome.{Outcome}
-use Rattle.columns.specs.declared.Outcome.TheVariants as O
-
--- ---- the table: one number a column, its parts from the highest: kind, place, width, required, last
-
-abbrev pub column_in : ℕ → Column
-column_in row =
-    record {
-      kind = row / 16777216;
-      place = row / 32768 % 512;
-      width = row / 256 % 128;
-      required = leb 128 (row % 256);
-      last = row % 128;
-    }
+use Rattle.columns.specs.declared.column.Column.TheVariants as K
+use Rattle.columns.specs.declared.column.Layout.{Layout}
+use Rattle.columns.specs.declared.Refusal.{Refusal}
 
 -- a range by its number: 0 as held, 1 not negative, 2 a day, else the span whose ends stand at that place of the ranges
 abbrev pub range_at : List ℤ → ℕ → Range
@@ -33,30 +23,44 @@ range_at rs k =
 -- a text's rule by its number
 abbrev pub rule_at : ℕ → Rule
 rule_at k =
-    pick (eqb k 0) any_text
-    (pick (eqb k 1) no_brackets (pick (eqb k 2) not_blank_first (pick (eqb k 3) not_all_blank blank_or_filled)))
+    pick (eqb k 0) U.AnyText
+    (pick (eqb k 1) U.NoBrackets (pick (eqb k 2) U.NotBlankFirst (pick (eqb k 3) U.NotAllBlank U.BlankOrFilled)))
 
 -- a group by its number: 0 the clock time, else the date
 abbrev pub group_at : ℕ → Group
 group_at k = pick (eqb k 0) clock_time calendar_date
 
--- a number's form: kind 0 is iW, its width W; kind 1 is fW.D, its place D
-abbrev pub form_in : Column → Form
-form_in c = pick (eqb c.kind 0) (N.Integer c.width) (N.Decimal c.width c.place)
+-- ---- the table: one number a column, its parts from the highest: kind, place, width, required, last
 
--- kinds 0 and 1 are numbers (the last part is the range), 2 text (its rule), 3 a letter of a set (as many letters from its place), 4
--- a group (which), any other a printed byte (its code)
+-- kinds 0 and 1 are numbers, iW of its width W and fW.D of its place D (the last part is the range), 2 text (its rule), 3 a letter of a
+-- set (as many letters from its place), 4 a group (which), any other a printed byte (its code)
+abbrev pub column_by : ℕ → ℕ → ℕ → Bool → ℕ → Column
+column_by kind place width required last =
+    pick (eqb kind 0) (K.Number (N.Integer width) required last)
+    (pick (eqb kind 1) (K.Number (N.Decimal width place) required last)
+    (pick (eqb kind 2) (K.Text width (rule_at last))
+    (pick (eqb kind 3) (K.Letter place last)
+    (pick (eqb kind 4) (K.Group last) (K.Printed width last)))))
+
+abbrev pub column_in : ℕ → Column
+column_in row =
+    column_by (row / 16777216) (row / 32768 % 512) (row / 256 % 128) (leb 128 (row % 256)) (row % 128)
+
+-- the column that a row stands for, with the ranges and the letters of its table
 abbrev pub col_of : Column → List ℤ → List ℕ → Col
-col_of c rs ls =
-    pick (ltb c.kind 2) (numeric (form_in c) c.required (range_at rs c.last))
-    (pick (eqb c.kind 2) (text c.width (rule_at c.last))
-    (pick (eqb c.kind 3) (letter (slice c.place (c.place + c.last) ls))
-    (pick (eqb c.kind 4) (group (group_at c.last)) (printed c.last c.width))))
+col_of (K.Number m q k) rs ls = numeric m q (range_at rs k)
+col_of (K.Text w x) rs ls = text w x
+col_of (K.Letter i n) rs ls = letter (slice i (i + n) ls)
+col_of (K.Group k) rs ls = group (group_at k)
+col_of (K.Printed w b) rs ls = printed b w
 
--- n columns from place i on
-abbrev pub columns_of : List ℕ → List ℤ → List ℕ → ℕ → ℕ → List Col
-columns_of s rs ls i zero = []
-columns_of s rs ls i (suc n) = col_of (column_in (get_or s i 0)) rs ls ∷ columns_of s rs ls (i + 1) n
+-- the columns of a table's rows
+abbrev pub columns_of : List ℕ → List ℤ → List ℕ → List Col
+columns_of [] rs ls = []
+columns_of (row ∷ s) rs ls = col_of (column_in row) rs ls ∷ columns_of s rs ls
+
+abbrev pub columns_in : Layout → List Col
+columns_in x = columns_of x.rows.now x.ranges.now x.letters.now
 
 -- ---- helping definitions: what is computed of a written-out list of columns, one test and the sizes
 
@@ -90,13 +94,25 @@ pub record Sound (cs : List Col) (at from to : ℕ) : Type 0 where
 
 -- bytes of the line, numbers and text bytes that a row's column takes: a letter has 1 byte, a group those of its parts
 abbrev pub width_by : Column → ℕ
-width_by c = pick (eqb c.kind 3) 1 (pick (eqb c.kind 4) (group_width (group_at c.last)) c.width)
+width_by (K.Number m q k) = form_width m
+width_by (K.Text w x) = w
+width_by (K.Letter i n) = 1
+width_by (K.Group k) = group_width (group_at k)
+width_by (K.Printed w b) = w
 
 abbrev pub slots_by : Column → ℕ
-slots_by c = pick (ltb c.kind 2) 1 (pick (eqb c.kind 4) 3 0)
+slots_by (K.Number m q k) = 1
+slots_by (K.Text w x) = 0
+slots_by (K.Letter i n) = 0
+slots_by (K.Group k) = 3
+slots_by (K.Printed w b) = 0
 
 abbrev pub texts_by : Column → ℕ
-texts_by c = pick (ltb c.kind 2) 0 (pick (ltb c.kind 4) (width_by c) 0)
+texts_by (K.Number m q k) = 0
+texts_by (K.Text w x) = w
+texts_by (K.Letter i n) = 1
+texts_by (K.Group k) = 0
+texts_by (K.Printed w b) = 0
 
 -- ---- the record: a flag that is 0 says that the number is missing, and then the number is 0. Document 01, "Numbers in columns":
 -- a missing number carries no number
@@ -135,10 +151,13 @@ over xs l = xs ++ drop (length xs) l
 abbrev pub placed : {A : Type 0} → ℕ → List A → List A → List A
 placed k xs l = take k l ++ over xs (drop k l)
 
--- an answer as the code gives it
+-- an answer as the code gives it, without what was asked for
+abbrev pub Outcome : Type 0
+Outcome = Result ⊤ Refusal
+
 abbrev pub outcome_of : {A : Type 0} → Answer A → Outcome
-outcome_of (ok x) = O.Done
-outcome_of (refusal n k) = O.Refused n k
+outcome_of (ok x) = Ok tt
+outcome_of (refusal n k) = Err (refusal_at n k)
 
 -- the lent bytes after an answer: the line over the first of them, or nothing changed
 abbrev pub laid : Answer (List ℕ) → List ℕ → List ℕ

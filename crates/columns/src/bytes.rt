@@ -1,8 +1,7 @@
 // Byte classes, and stretches of bytes: all blank, copied, the lowest barred byte, a letter of a set, equal.
 ghost use Rattle.std.specs.Prelude.{◌≡◌, true, false, ◌++◌, ◌+◌, ◌-◌, ◌≤◌, length, take, drop, replicate};
-ghost use Rattle.std.proofs.Math.Seq.{slice};
 ghost use Rattle.columns.specs.Answer.{pick};
-ghost use Rattle.columns.specs.Bytes.{skip, trim, is_digit, is_bracket, is_allowed, inside, Plain, barred, member, same_bytes};
+ghost use Rattle.columns.specs.Bytes.{skip, trim, all_blank, is_digit, is_bracket, is_allowed, inside, Plain, barred, found, member, same_bytes};
 ghost use Rattle.columns.specs.Table.{placed};
 
 // All bytes `b`. One byte, the usual case, is written without a call to the compiler's own filling.
@@ -11,12 +10,8 @@ pub fn fill(out: &mut [u8], b: u8)
 {
     if out.len() == 1 {
         out[0] = b;
-        return;
-    }
-    let mut i = 0;
-    while i < out.len() {
-        out[i] = b;
-        i += 1;
+    } else {
+        out.fill(b);
     }
 }
 
@@ -24,7 +19,7 @@ pub fn fill(out: &mut [u8], b: u8)
 pub fn blanks(out: &mut [u8])
     ensures { out.new ≡ replicate (length out.old) 32 }
 {
-    fill(out, 32);
+    fill(out, b' ');
 }
 
 // The bytes of `from`, over the first of `out`.
@@ -32,11 +27,7 @@ pub fn copy(out: &mut [u8], from: &[u8])
     requires { length from.now ≤ length out.old }
     ensures { out.new ≡ from.now ++ drop (length from.now) out.old }
 {
-    let mut i = 0;
-    while i < from.len() {
-        out[i] = from[i];
-        i += 1;
-    }
+    out[..from.len()].copy_from_slice(from);
 }
 
 // The bytes of `from`, from place `at` on.
@@ -48,85 +39,69 @@ pub fn copy_at(out: &mut [u8], at: usize, from: &[u8])
     copy(&mut out[at..end], from);
 }
 
-// The first place from `from` to `to` that is no byte `b`, or `to`.
-pub fn skip(line: &[u8], from: usize, to: usize, b: u8) -> usize
-    requires { (from ≤ to) × (to ≤ length line.now) }
-    ensures { (from ≤ result) × ((result ≤ to) × (skip b (slice from to line.now) ≡ slice result to line.now)) }
+// The bytes after the leading ones that are `b`.
+pub fn skip(s: &[u8], b: u8) -> &[u8]
+    ensures { result.now ≡ skip b s.now }
 {
-    let mut i = from;
-    while i < to {
-        if line[i] != b {
-            return i;
+    for (i, here) in s.iter().enumerate() {
+        if *here != b {
+            return &s[i..];
         }
-        i += 1;
     }
-    i
+    &s[s.len()..]
 }
 
-// The first place from `from` to `to` that is no blank, or `to`.
-pub fn skip_blanks(line: &[u8], from: usize, to: usize) -> usize
-    requires { (from ≤ to) × (to ≤ length line.now) }
-    ensures { (from ≤ result) × ((result ≤ to) × (trim (slice from to line.now) ≡ slice result to line.now)) }
+// The bytes after the leading blanks.
+pub fn trim(s: &[u8]) -> &[u8]
+    ensures { result.now ≡ trim s.now }
 {
-    skip(line, from, to, 32)
+    skip(s, b' ')
+}
+
+// Whether there is nothing but blanks.
+pub fn is_blank(s: &[u8]) -> bool
+    ensures { result ≡ all_blank s.now }
+{
+    trim(s).is_empty()
 }
 
 pub fn is_digit(b: u8) -> bool
     ensures { result ≡ is_digit b }
 {
-    if b < 48 {
-        return false;
-    }
-    b <= 57
+    matches!(b, b'0'..=b'9')
 }
 
 pub fn is_bracket(b: u8) -> bool
     ensures { result ≡ is_bracket b }
 {
-    if b == 91 {
-        return true;
-    }
-    b == 93
+    matches!(b, b'[' | b']')
 }
 
 fn is_inside(from: usize, to: usize, column: usize) -> bool
     ensures { result ≡ inside from to column }
 {
-    if column < from {
-        return false;
-    }
-    column <= to
+    from <= column && column <= to
 }
 
 // Whether a byte may not stand in a column, brackets barred in the columns `from` to `to`.
 pub fn is_barred(b: u8, column: usize, from: usize, to: usize) -> bool
     ensures { result ≡ pick (is_allowed (inside from to column) b) false true }
 {
-    if b < 32 {
-        return true;
-    }
-    if 126 < b {
-        return true;
-    }
-    if !is_bracket(b) {
-        return false;
-    }
-    is_inside(from, to, column)
+    b < b' ' || b'~' < b || is_bracket(b) && is_inside(from, to, column)
 }
 
-// The same as first_barred, a byte at a time.
-fn scan_barred(s: &[u8], column: usize, from: usize, to: usize) -> usize
-    requires { column + length s.now ≤ 70000 }
-    ensures { result ≡ barred from to column s.now }
+// The same as first_barred, a byte at a time: a rare call, which is kept out of the callers' loops.
+#[inline(never)]
+fn scan_barred(s: &[u8], column: usize, from: usize, to: usize) -> Option<usize>
+    requires { (1 ≤ column) × (column + length s.now ≤ 70000) }
+    ensures { result ≡ found (barred from to column s.now) }
 {
-    let mut i = 0;
-    while i < s.len() {
-        if is_barred(s[i], column + i, from, to) {
-            return column + i;
+    for (i, b) in s.iter().enumerate() {
+        if is_barred(*b, column + i, from, to) {
+            return Some(column + i);
         }
-        i += 1;
     }
-    0
+    None
 }
 
 // Whether each byte may stand in any column. The loop has no way out but its end, so that the compiler makes it compare sixteen
@@ -135,10 +110,8 @@ fn plain_part(s: &[u8]) -> bool
     ensures { result ≡ true → Plain (length s.now) s.now }
 {
     let mut ok = true;
-    let mut i = 0;
-    while i < s.len() {
-        ok = ok & !is_barred(s[i], 0, 0, 0);
-        i += 1;
+    for b in s {
+        ok &= !is_barred(*b, 0, 0, 0);
     }
     ok
 }
@@ -151,21 +124,23 @@ fn barred_between(
     column: usize,
     from: usize,
     to: usize,
-) -> usize
-    requires { (start ≤ end) × ((end ≤ length s.now) × (column + length s.now ≤ 70000)) }
-    ensures { result ≡ barred from to (column + start) (take (end - start) (drop start s.now)) }
+) -> Option<usize>
+    requires { (start ≤ end) × ((end ≤ length s.now) × ((1 ≤ column) × (column + length s.now ≤ 70000))) }
+    ensures { result ≡ found (barred from to (column + start) (take (end - start) (drop start s.now))) }
 {
-    if plain_part(&s[start..end]) {
-        return 0;
+    let part = &s[start..end];
+    if plain_part(part) {
+        return None;
     }
-    scan_barred(&s[start..end], column + start, from, to)
+    scan_barred(part, column + start, from, to)
 }
 
-// The lowest column with a barred byte, brackets barred in the columns `from` to `to`, or 0. The bytes of `s` stand from
+// The lowest column with a barred byte, brackets barred in the columns `from` to `to`. The bytes of `s` stand from
 // `column` on. In parts of sixteen bytes: the last part ends where `s` ends, and may hold bytes of the part before it.
-pub fn first_barred(s: &[u8], column: usize, from: usize, to: usize) -> usize
+#[inline(always)]
+pub fn first_barred(s: &[u8], column: usize, from: usize, to: usize) -> Option<usize>
     requires { (1 ≤ column) × (column + length s.now ≤ 70000) }
-    ensures { result ≡ barred from to column s.now }
+    ensures { result ≡ found (barred from to column s.now) }
 {
     let n = s.len();
     if n < 16 {
@@ -175,7 +150,7 @@ pub fn first_barred(s: &[u8], column: usize, from: usize, to: usize) -> usize
     while 16 < n - i {
         let e = i + 16;
         let found = barred_between(s, i, e, column, from, to);
-        if found != 0 {
+        if found.is_some() {
             return found;
         }
         i = e;
@@ -183,22 +158,11 @@ pub fn first_barred(s: &[u8], column: usize, from: usize, to: usize) -> usize
     barred_between(s, n - 16, n, column, from, to)
 }
 
-// Whether the letters from place `from` to place `to` have b.
-pub fn has(letters: &[u8], from: usize, to: usize, b: u8) -> bool
-    requires { from ≤ to }
-    ensures { result ≡ member b (slice from to letters.now) }
+// Whether the letters have b.
+pub fn has(letters: &[u8], b: u8) -> bool
+    ensures { result ≡ member b letters.now }
 {
-    let mut i = from;
-    while i < to {
-        if letters.len() <= i {
-            return false;
-        }
-        if letters[i] == b {
-            return true;
-        }
-        i += 1;
-    }
-    false
+    letters.contains(&b)
 }
 
 // Whether two stretches of one length are equal. The loop has no way out but its end, so that the compiler makes it compare
@@ -208,10 +172,8 @@ fn same_part(a: &[u8], b: &[u8]) -> bool
     ensures { result ≡ same_bytes a.now b.now }
 {
     let mut ok = true;
-    let mut i = 0;
-    while i < a.len() {
-        ok = ok & (a[i] == b[i]);
-        i += 1;
+    for (i, x) in a.iter().enumerate() {
+        ok &= *x == b[i];
     }
     ok
 }

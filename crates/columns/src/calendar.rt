@@ -32,14 +32,9 @@ fn days_in(year: i64, month: i64) -> i64
 fn last_day(year: Field, month: Field) -> i64
     ensures { result ≡ pos (last_day (slot_in year) (slot_in month)) }
 {
-    match year {
-        Field::Missing => 31,
-        Field::Bad => 31,
-        Field::Value(y) => match month {
-            Field::Missing => 31,
-            Field::Bad => 31,
-            Field::Value(m) => days_in(y, m),
-        },
+    match (year, month) {
+        (Field::Value(y), Field::Value(m)) => days_in(y, m),
+        _ => 31,
     }
 }
 

@@ -1,14 +1,15 @@
 // A column of a table, one number a column, and the range step.
-ghost use Rattle.std.specs.Prelude.{◌≡◌, List, ◌+◌, ◌≤◌, ◌<◌, length, take, get_or, pos};
+ghost use Rattle.std.specs.Prelude.{◌≡◌, List, ◌+◌, ◌-◌, ◌^◌, ◌≤◌, ◌<◌, length, take, drop, get_or, pos};
 ghost use Rattle.std.proofs.Math.Seq.{slice};
 ghost use Rattle.columns.specs.Column.{Slot, slot_in, within, last_day_after, allowed};
 ghost use Rattle.columns.specs.Reading.{rule_refuses, rule_number};
-ghost use Rattle.columns.specs.Table.{column_in, range_at, rule_at, form_in, width_by, slots_by, texts_by, slot_of, slots_of};
+ghost use Rattle.columns.specs.Table.{column_in, range_at, rule_at, width_by, slots_by, texts_by, slot_of, slots_of};
 
-use super::bytes::skip_blanks;
+use super::Reason;
+use super::bytes::is_blank;
 use super::calendar::is_day;
 use super::group::{group_at, group_width};
-use super::number::{Field, Form};
+use super::number::{Field, Form, width_of};
 
 // A row of a table is a sum: a kind; places, the decimals of a number or the place of a set's first letter; widths, the columns;
 // REQUIRED for a number that must be there; and last the range of a number, the rule of a text, the count of a set's letters,
@@ -57,147 +58,214 @@ pub const CLOCK: u32 = 0;
 
 pub const DATE: u32 = 1;
 
-// The parts of a row.
-#[derive(Clone, Copy)]
-pub struct Column {
-    pub kind: u32,
-    pub place: usize,
-    pub width: usize,
-    pub required: bool,
-    pub last: usize,
+// What a text may be.
+#[derive(Clone, Copy, PartialEq, Eq, Debug)]
+pub enum Rule {
+    AnyText,
+    NoBrackets,
+    NotBlankFirst,
+    NotAllBlank,
+    BlankOrFilled,
 }
 
-// The parts of a row (specs/Table.antt).
-pub fn column_in(row: u32) -> Column
-    ensures { (result ≡ column_in row) × ((result.place < 512) × (result.last < 128)) }
-{
-    Column {
-        kind: row / 16777216,
-        place: (row / 32768 % 512) as usize,
-        width: (row / 256 % 128) as usize,
-        required: 128 <= row % 256,
-        last: (row % 128) as usize,
+// A column of a table, the parts of its row: a number, with the place of its range among the table's; text; a letter of a set, which is
+// `count` letters of the table from place `first` on; a group by its number; a printed byte.
+#[derive(Clone, Copy)]
+pub enum Column {
+    Number {
+        form: Form,
+        required: bool,
+        range: u8,
+    },
+    Text {
+        width: usize,
+        rule: Rule,
+    },
+    Letter {
+        first: u16,
+        count: u8,
+    },
+    Group {
+        number: u8,
+    },
+    Printed {
+        width: usize,
+        byte: u8,
+    },
+}
+
+// A table: its rows, and the ranges and letters that they name.
+#[derive(Clone, Copy)]
+pub struct Layout<'a> {
+    pub rows: &'a [u32],
+    pub ranges: &'a [i64],
+    pub letters: &'a [u8],
+}
+
+impl<'a> Layout<'a> {
+    // The table of the rows from place `from` up to place `to`.
+    pub fn part(&self, from: usize, to: usize) -> Layout<'a>
+        requires { (from ≤ to) × (to ≤ length self.now.rows.now) }
+        ensures { (result.rows.now ≡ take (to - from) (drop from self.now.rows.now)) × (result.ranges.now ≡ self.now.ranges.now) × (result.letters.now ≡ self.now.letters.now) }
+    {
+        Layout {
+            rows: &self.rows[from..to],
+            ranges: self.ranges,
+            letters: self.letters,
+        }
     }
 }
 
-// The columns that a row's column takes.
+impl<'a> Layout<'a> {
+    // `count` letters from place `first` on, as far as the table has them.
+    pub fn set(&self, first: usize, count: usize) -> &'a [u8]
+        requires { first + count < 2 ^ 64 }
+        ensures { result.now ≡ slice first (first + count) self.now.letters.now }
+    {
+        let end = self.letters.len().min(first + count);
+        &self.letters[first.min(end)..end]
+    }
+}
+
+// A rule by its number.
+pub fn rule_at(number: u32) -> Rule
+    ensures { result ≡ rule_at number }
+{
+    match number {
+        ANY_TEXT => Rule::AnyText,
+        NO_BRACKETS => Rule::NoBrackets,
+        NOT_BLANK_FIRST => Rule::NotBlankFirst,
+        NOT_ALL_BLANK => Rule::NotAllBlank,
+        _ => Rule::BlankOrFilled,
+    }
+}
+
+// The column of a row.
+#[inline(always)]
+pub fn column_in(row: u32) -> Column
+    ensures { result ≡ column_in row }
+{
+    let place = row / PLACES % 512;
+    let width = (row / WIDTH % 128) as usize;
+    let required = REQUIRED <= row % 256;
+    let last = row % 128;
+    match row / DECIMAL {
+        0 => Column::Number {
+            form: Form::Integer(width),
+            required,
+            range: last as u8,
+        },
+        1 => Column::Number {
+            form: Form::Decimal(width, place as usize),
+            required,
+            range: last as u8,
+        },
+        2 => Column::Text {
+            width,
+            rule: rule_at(last),
+        },
+        3 => Column::Letter {
+            first: place as u16,
+            count: last as u8,
+        },
+        4 => Column::Group { number: last as u8 },
+        _ => Column::Printed {
+            width,
+            byte: last as u8,
+        },
+    }
+}
+
+// The columns of the line that it takes.
+#[inline(always)]
 pub fn width_in(c: Column) -> usize
     ensures { result ≡ width_by c }
 {
-    let kind = c.kind;
-    if kind == 3 {
-        return 1;
+    match c {
+        Column::Number { form, .. } => width_of(form),
+        Column::Text { width, .. } | Column::Printed { width, .. } => width,
+        Column::Letter { .. } => 1,
+        Column::Group { number } => group_width(group_at(usize::from(number))),
     }
-    if kind == 4 {
-        return group_width(group_at(c.last));
-    }
-    c.width
 }
 
-// Numbers of the record that it takes.
+// The numbers of the record that it takes.
 pub fn slots_in(c: Column) -> usize
     ensures { result ≡ slots_by c }
 {
-    let kind = c.kind;
-    if kind < 2 {
-        return 1;
+    match c {
+        Column::Number { .. } => 1,
+        Column::Group { .. } => 3,
+        _ => 0,
     }
-    if kind == 4 {
-        return 3;
-    }
-    0
 }
 
-// Text bytes of the record that it takes.
+// The text bytes of the record that it takes.
 pub fn texts_in(c: Column) -> usize
     ensures { result ≡ texts_by c }
 {
-    let kind = c.kind;
-    if kind < 2 {
-        return 0;
+    match c {
+        Column::Text { width, .. } => width,
+        Column::Letter { .. } => 1,
+        _ => 0,
     }
-    if kind < 4 {
-        return width_in(c);
-    }
-    0
 }
 
-// Whether a text's rule refuses the bytes from place `at` up to place `end`. Those that do not begin with a blank it does not.
-pub fn refuses_text(s: &[u8], at: usize, end: usize, rule: usize) -> bool
-    requires { (at < end) × (end ≤ length s.now) }
-    ensures { result ≡ rule_refuses (rule_at rule) (slice at end s.now) }
+// Whether a text's rule refuses its bytes.
+#[inline(always)]
+pub fn refuses_text(s: &[u8], rule: Rule) -> bool
+    requires { 1 ≤ length s.now }
+    ensures { result ≡ rule_refuses rule s.now }
 {
-    if rule < 2 {
+    // most text: a comparison, where the match below may be a jump through a table
+    if matches!(rule, Rule::AnyText | Rule::NoBrackets) {
         return false;
     }
-    if s[at] != 32 {
-        return false;
+    match rule {
+        Rule::AnyText | Rule::NoBrackets => false,
+        Rule::NotBlankFirst => s[0] == b' ',
+        Rule::NotAllBlank => is_blank(s),
+        Rule::BlankOrFilled => s[0] == b' ' && !is_blank(s),
     }
-    if rule == 2 {
-        return true;
-    }
-    let start = skip_blanks(s, at, end);
-    if rule == 3 {
-        return start == end;
-    }
-    start != end
 }
 
-// The number of a text that its rule refuses.
-pub fn rule_number(rule: usize) -> u8
-    ensures { result ≡ rule_number (rule_at rule) }
+// Why a rule refuses a text.
+pub fn rule_reason(rule: Rule) -> Reason
+    ensures { result ≡ rule_number rule }
 {
-    if rule < 4 {
-        return super::REQUIRED;
+    if rule == Rule::BlankOrFilled {
+        Reason::Form
+    } else {
+        Reason::Required
     }
-    super::FORM
 }
 
-// The form of a number's column.
-pub fn form_in(c: Column) -> Form
-    ensures { result ≡ form_in c }
-{
-    let kind = c.kind;
-    if kind == 0 {
-        return Form::Integer(c.width);
-    }
-    Form::Decimal(c.width, c.place)
-}
-
+#[inline(always)]
 pub fn in_range(low: i64, high: i64, v: i64) -> bool
     ensures { result ≡ within low high v }
 {
-    if v < low {
-        return false;
-    }
-    if high < v {
-        return false;
-    }
-    true
+    low <= v && v <= high
 }
 
 // An end of a range: 0 where the table has none there.
+#[inline(always)]
 fn end_at(ranges: &[i64], i: usize) -> i64
     ensures { result ≡ get_or ranges.now i (pos 0) }
 {
-    if i < ranges.len() {
-        return ranges[i];
-    }
-    0
+    ranges.get(i).copied().unwrap_or(0)
 }
 
 // Whether a range that is no day may hold v, whatever numbers came before it.
+#[inline(always)]
 pub fn in_range_at(ranges: &[i64], k: usize, v: i64) -> bool
-    requires { (k < 128) × (k ≡ 2 → ⊥) }
+    requires { (k < 256) × (k ≡ 2 → ⊥) }
     ensures { (seen : List Slot) → result ≡ allowed (range_at ranges.now k) seen v }
 {
-    if k == 0 {
-        return true;
+    match k {
+        0 => true,
+        1 => 0 <= v,
+        _ => in_range(end_at(ranges, k), end_at(ranges, k + 1), v),
     }
-    if k == 1 {
-        return 0 <= v;
-    }
-    in_range(end_at(ranges, k), end_at(ranges, k + 1), v)
 }
 
 // A number of the record.
@@ -206,9 +274,10 @@ fn number_at(flags: &[u8], values: &[i64], i: usize) -> Field
     ensures { slot_in result ≡ slot_of (get_or flags.now i 0) (get_or values.now i (pos 0)) }
 {
     if flags[i] == 0 {
-        return Field::Missing;
+        Field::Missing
+    } else {
+        Field::Value(values[i])
     }
-    Field::Value(values[i])
 }
 
 // Whether v is a day after the first n numbers of the record.
@@ -228,7 +297,7 @@ pub fn day_after(flags: &[u8], values: &[i64], n: usize, v: i64) -> bool
 
 // The range step: whether a column may hold v, after the first n numbers of the record.
 pub fn allows(ranges: &[i64], k: usize, flags: &[u8], values: &[i64], n: usize, v: i64) -> bool
-    requires { (k < 128) × ((length flags.now ≡ length values.now) × (n ≤ length flags.now)) }
+    requires { (k < 256) × ((length flags.now ≡ length values.now) × (n ≤ length flags.now)) }
     ensures { result ≡ allowed (range_at ranges.now k) (take n (slots_of flags.now values.now)) v }
 {
     if k == 2 {

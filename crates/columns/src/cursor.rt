@@ -1,17 +1,18 @@
 // The cursor: it reads one column field and is handed back with the value.
-ghost use Rattle.std.specs.Prelude.{◌≡◌, List, [], ℕ, ◌+◌, ◌≤◌, ◌<◌, length, take, T};
+ghost use Rattle.std.specs.Prelude.{◌≡◌, List, [], ℕ, ◌+◌, ◌^◌, ◌≤◌, ◌<◌, length, take, T};
 ghost use Rattle.std.proofs.Math.Seq.{slice};
-ghost use Rattle.columns.specs.Number.{int_field, dec_field};
-ghost use Rattle.columns.specs.Column.{Slot, calendar_day, allowed, text, letter, printed, width, group_width, good_group};
+ghost use Rattle.columns.specs.Number.{int_field, dec_field, field_of, form_width, good_form};
+ghost use Rattle.columns.specs.Column.{Slot, allowed, text, letter, printed, width, group_width, good_group};
 ghost use Rattle.columns.specs.Group.{group_field, judge_group};
 ghost use Rattle.columns.specs.Reading.{judge, read_cell};
-ghost use Rattle.columns.specs.Table.{range_at, rule_at, col_of, slots_of, placed};
+ghost use Rattle.columns.specs.Table.{range_at, col_of, width_by, slots_of, placed};
 ghost use Rattle.columns.specs.Cell.{cell_answer, Found, Readable};
 
 use super::bytes::{copy_at, has, skip};
-use super::column::{Column, day_after, in_range_at, refuses_text, rule_number};
+use super::column::{Column, Layout, Rule, allows, refuses_text, rule_reason};
 use super::group::{Group, Three, group_at, group_width, in_group, read_group};
-use super::number::{Field, read_dec, read_int};
+use super::number::{Field, Form, read_dec, read_int};
+use super::{Reason, Refusal};
 
 // How many columns of the line are done.
 #[derive(Clone, Copy)]
@@ -19,162 +20,140 @@ pub struct Cursor {
     pub at: usize,
 }
 
-// What a column holds: a number that is missing or given, a group that is missing or given, its own bytes (text or a
-// letter), nothing (printed bytes); or the number and column of its refusal.
+// What a column holds: a number or none, a group that is missing or its three numbers, its own bytes (text or a letter), nothing
+// (printed bytes).
 #[derive(Clone, Copy)]
 pub enum Cell {
-    Absent,
-    Number(i64),
+    Number(Option<i64>),
     NoThree,
     Three(i64, i64, i64),
     Chars,
     Gap,
-    Refused(u8, usize),
 }
 
+// What was read, and the cursor behind it.
 #[derive(Clone, Copy)]
-pub struct NumberRead {
-    pub field: Field,
+pub struct Read<T> {
+    pub value: T,
     pub next: Cursor,
 }
 
-#[derive(Clone, Copy)]
-pub struct GroupRead {
-    pub three: Three,
-    pub next: Cursor,
-}
-
-#[derive(Clone, Copy)]
-pub struct CellRead {
-    pub cell: Cell,
-    pub next: Cursor,
-}
-
-// A number's column by a range that is no day: required and blank 5, form 6, range 7.
-fn judged(field: Field, at: usize, c: Column, ranges: &[i64]) -> Cell
-    requires { (at ≤ 4096) × ((c.last < 128) × (c.last ≡ 2 → ⊥)) }
-    ensures { (seen : List Slot) (f : List ℕ) → cell_answer result f ≡ judge c.required (allowed (range_at ranges.now c.last) seen) at field }
-{
-    match field {
-        Field::Missing => {
-            if c.required {
-                Cell::Refused(super::REQUIRED, at + 1)
-            } else {
-                Cell::Absent
-            }
-        }
-        Field::Bad => Cell::Refused(super::FORM, at + 1),
-        Field::Value(v) => {
-            if in_range_at(ranges, c.last, v) {
-                Cell::Number(v)
-            } else {
-                Cell::Refused(super::RANGE, at + 1)
-            }
+impl<T: Drop> Read<T> {
+    // Another value, and the same cursor.
+    fn with<U>(self, value: U) -> Read<U>
+        ensures { (result.value ≡ value) × (result.next ≡ self.next) }
+    {
+        Read {
+            value,
+            next: self.next,
         }
     }
 }
 
-// A day's column after the first k numbers of the record: the same order.
-fn judged_day(field: Field, at: usize, c: Column, flags: &[u8], values: &[i64], k: usize) -> Cell
-    requires { (at ≤ 4096) × ((length flags.now ≡ length values.now) × (k ≤ length flags.now)) }
-    ensures { (f : List ℕ) → cell_answer result f ≡ judge c.required (allowed calendar_day (take k (slots_of flags.now values.now))) at field }
+// A number's column after the first k numbers of the record: required and blank 5, form 6, range 7.
+fn judged(
+    field: Field,
+    at: usize,
+    required: bool,
+    range: usize,
+    ranges: &[i64],
+    flags: &[u8],
+    values: &[i64],
+    k: usize,
+) -> Result<Cell, Refusal>
+    requires { (at ≤ 4096) × ((range < 256) × ((length flags.now ≡ length values.now) × (k ≤ length flags.now))) }
+    ensures { (f : List ℕ) → cell_answer result f ≡ judge required (allowed (range_at ranges.now range) (take k (slots_of flags.now values.now))) at field }
 {
     match field {
-        Field::Missing => {
-            if c.required {
-                Cell::Refused(super::REQUIRED, at + 1)
-            } else {
-                Cell::Absent
-            }
-        }
-        Field::Bad => Cell::Refused(super::FORM, at + 1),
-        Field::Value(v) => {
-            if day_after(flags, values, k, v) {
-                Cell::Number(v)
-            } else {
-                Cell::Refused(super::RANGE, at + 1)
-            }
-        }
+        Field::Missing if required => Err(Reason::Required.at(at + 1)),
+        Field::Missing => Ok(Cell::Number(None)),
+        Field::Bad => Err(Reason::Form.at(at + 1)),
+        Field::Value(v) if allows(ranges, range, flags, values, k, v) => Ok(Cell::Number(Some(v))),
+        Field::Value(_) => Err(Reason::Range.at(at + 1)),
     }
 }
 
 // A group's column: form 6, ranges 7.
-fn grouped(three: Three, at: usize, g: Group) -> Cell
+fn grouped(three: Three, at: usize, g: Group) -> Result<Cell, Refusal>
     requires { at ≤ 4096 }
     ensures { (seen : List Slot) (f : List ℕ) → cell_answer result f ≡ judge_group g seen at three }
 {
     match three {
-        Three::Missing => Cell::NoThree,
-        Three::Bad => Cell::Refused(super::FORM, at + 1),
-        Three::Given(x, y, z) => {
-            if in_group(g, x, y, z) {
-                Cell::Three(x, y, z)
-            } else {
-                Cell::Refused(super::RANGE, at + 1)
-            }
-        }
+        Three::Missing => Ok(Cell::NoThree),
+        Three::Bad => Err(Reason::Form.at(at + 1)),
+        Three::Given(x, y, z) if in_group(g, x, y, z) => Ok(Cell::Three(x, y, z)),
+        Three::Given(_, _, _) => Err(Reason::Range.at(at + 1)),
     }
 }
 
 impl Cursor {
-    // An integer field.
-    pub fn integer(self, line: &[u8], width: usize) -> NumberRead
-        requires { (self.at + width ≤ length line.now) × (width ≤ 18) }
-        ensures { (result.field ≡ int_field (slice self.at (self.at + width) line.now)) × (result.next.at ≡ self.at + width) }
+    // A value, and the cursor behind its columns.
+    fn past<T>(self, width: usize, value: T) -> Read<T>
+        requires { self.at + width < 2 ^ 64 }
+        ensures { (result.value ≡ value) × (result.next.at ≡ self.at + width) }
     {
-        let at = self.at;
-        let field = read_int(line, at, width);
-        NumberRead {
-            field,
-            next: Cursor { at: at + width },
+        Read {
+            value,
+            next: Cursor {
+                at: self.at + width,
+            },
         }
     }
 
-    // A decimal field.
-    pub fn decimal(self, line: &[u8], width: usize, decimals: usize) -> NumberRead
-        requires { (self.at + width ≤ length line.now) × ((decimals < width) × (width ≤ 18)) }
-        ensures { (result.field ≡ dec_field decimals (slice self.at (self.at + width) line.now)) × (result.next.at ≡ self.at + width) }
+    // The bytes of a column.
+    fn field(self, line: &[u8], width: usize) -> &[u8]
+        requires { self.at + width ≤ length line.now }
+        ensures { result.now ≡ slice self.at (self.at + width) line.now }
     {
-        let at = self.at;
-        let field = read_dec(line, at, width, decimals);
-        NumberRead {
-            field,
-            next: Cursor { at: at + width },
+        let end = self.at + width;
+        &line[self.at..end]
+    }
+
+    // An integer field.
+    pub fn integer(self, line: &[u8], width: usize) -> Read<Field>
+        requires { (self.at + width ≤ length line.now) × (width ≤ 18) }
+        ensures { (result.value ≡ int_field (slice self.at (self.at + width) line.now)) × (result.next.at ≡ self.at + width) }
+    {
+        self.past(width, read_int(self.field(line, width)))
+    }
+
+    // A decimal field.
+    pub fn decimal(self, line: &[u8], width: usize, decimals: usize) -> Read<Field>
+        requires { (self.at + width ≤ length line.now) × ((decimals < width) × (width ≤ 18)) }
+        ensures { (result.value ≡ dec_field decimals (slice self.at (self.at + width) line.now)) × (result.next.at ≡ self.at + width) }
+    {
+        self.past(width, read_dec(self.field(line, width), decimals))
+    }
+
+    // A number of a form.
+    fn number(self, line: &[u8], form: Form) -> Read<Field>
+        requires { (self.at + form_width form ≤ length line.now) × T (good_form form) }
+        ensures { (result.value ≡ field_of form (slice self.at (self.at + form_width form) line.now)) × (result.next.at ≡ self.at + form_width form) }
+    {
+        match form {
+            Form::Integer(width) => self.integer(line, width),
+            Form::Decimal(width, decimals) => self.decimal(line, width, decimals),
         }
     }
 
     // A group.
-    pub fn group(self, line: &[u8], g: Group) -> GroupRead
+    pub fn group(self, line: &[u8], g: Group) -> Read<Three>
         requires { (self.at + group_width g ≤ length line.now) × T (good_group g) }
-        ensures { (result.three ≡ group_field g (slice self.at (self.at + group_width g) line.now)) × (result.next.at ≡ self.at + group_width g) }
+        ensures { (result.value ≡ group_field g (slice self.at (self.at + group_width g) line.now)) × (result.next.at ≡ self.at + group_width g) }
     {
-        let at = self.at;
-        let end = at + group_width(g);
-        let three = read_group(line, at, g);
-        GroupRead {
-            three,
-            next: Cursor { at: end },
-        }
+        let width = group_width(g);
+        self.past(width, read_group(self.field(line, width), g))
     }
 
     // Text with its rule.
-    pub fn text(self, line: &[u8], width: usize, rule: usize) -> CellRead
+    pub fn text(self, line: &[u8], width: usize, rule: Rule) -> Read<Result<Cell, Refusal>>
         requires { (self.at + width ≤ length line.now) × ((1 ≤ width) × (self.at ≤ 4096)) }
-        ensures { Found (read_cell (text width (rule_at rule)) [] self.at (slice self.at (self.at + width) line.now)) result self.at width (slice self.at (self.at + width) line.now) }
+        ensures { (seen : List Slot) → Found (read_cell (text width rule) seen self.at (slice self.at (self.at + width) line.now)) result self.at width (slice self.at (self.at + width) line.now) }
     {
-        let at = self.at;
-        let end = at + width;
-        let next = Cursor { at: end };
-        if refuses_text(line, at, end, rule) {
-            return CellRead {
-                cell: Cell::Refused(rule_number(rule), at + 1),
-                next,
-            };
+        if refuses_text(self.field(line, width), rule) {
+            return self.past(width, Err(rule_reason(rule).at(self.at + 1)));
         }
-        CellRead {
-            cell: Cell::Chars,
-            next,
-        }
+        self.past(width, Ok(Cell::Chars))
     }
 
     // Text of any length, as it stands, into `out` from place `to` on.
@@ -182,78 +161,35 @@ impl Cursor {
         requires { (self.at + width ≤ length line.now) × (to + width ≤ length out.old) }
         ensures { (result.at ≡ self.at + width) × (out.new ≡ placed to (slice self.at (self.at + width) line.now) out.old) }
     {
-        let at = self.at;
-        let end = at + width;
-        copy_at(out, to, &line[at..end]);
-        Cursor { at: end }
+        copy_at(out, to, self.field(line, width));
+        Cursor {
+            at: self.at + width,
+        }
     }
 
-    // A letter of those from place `from` to place `to`.
-    pub fn letter(self, line: &[u8], letters: &[u8], from: usize, to: usize) -> CellRead
-        requires { (self.at + 1 ≤ length line.now) × ((from ≤ to) × (self.at ≤ 4096)) }
-        ensures { Found (read_cell (letter (slice from to letters.now)) [] self.at (slice self.at (self.at + 1) line.now)) result self.at 1 (slice self.at (self.at + 1) line.now) }
+    // A letter of a set.
+    pub fn letter(self, line: &[u8], set: &[u8]) -> Read<Result<Cell, Refusal>>
+        requires { (self.at + 1 ≤ length line.now) × (self.at ≤ 4096) }
+        ensures { (seen : List Slot) → Found (read_cell (letter set.now) seen self.at (slice self.at (self.at + 1) line.now)) result self.at 1 (slice self.at (self.at + 1) line.now) }
     {
-        let at = self.at;
-        let next = Cursor { at: at + 1 };
-        if has(letters, from, to, line[at]) {
-            return CellRead {
-                cell: Cell::Chars,
-                next,
-            };
+        if has(set, line[self.at]) {
+            return self.past(1, Ok(Cell::Chars));
         }
-        CellRead {
-            cell: Cell::Refused(super::LETTER, at + 1),
-            next,
-        }
+        self.past(1, Err(Reason::Letter.at(self.at + 1)))
     }
 
     // Columns that all hold the printed byte `b`: any other is 4 at its own column.
-    pub fn printed(self, line: &[u8], width: usize, b: u8) -> CellRead
+    pub fn printed(self, line: &[u8], width: usize, b: u8) -> Read<Result<Cell, Refusal>>
         requires { (self.at + width ≤ length line.now) × (length line.now ≤ 4096) }
-        ensures { Found (read_cell (printed b width) [] self.at (slice self.at (self.at + width) line.now)) result self.at width (slice self.at (self.at + width) line.now) }
+        ensures { (seen : List Slot) → Found (read_cell (printed b width) seen self.at (slice self.at (self.at + width) line.now)) result self.at width (slice self.at (self.at + width) line.now) }
     {
-        let at = self.at;
-        let end = at + width;
-        let next = Cursor { at: end };
-        let start = skip(line, at, end, b);
-        if start == end {
-            return CellRead {
-                cell: Cell::Gap,
-                next,
-            };
+        let field = self.field(line, width);
+        let rest = skip(field, b);
+        if rest.is_empty() {
+            return self.past(width, Ok(Cell::Gap));
         }
-        CellRead {
-            cell: Cell::Refused(super::SEPARATOR, start + 1),
-            next,
-        }
-    }
-
-    // A column that is no number.
-    fn other(self, line: &[u8], c: Column, letters: &[u8]) -> CellRead
-        requires { (2 ≤ c.kind) × ((c.place < 512) × ((c.last < 128) × Readable (col_of c [] letters.now) self.at (length line.now) 0 0 0)) }
-        ensures { (seen : List Slot) → Found (read_cell (col_of c [] letters.now) seen self.at (slice self.at (self.at + width (col_of c [] letters.now)) line.now)) result self.at (width (col_of c [] letters.now)) (slice self.at (self.at + width (col_of c [] letters.now)) line.now) }
-    {
-        let at = self.at;
-        let kind = c.kind;
-        let place = c.place;
-        let last = c.last;
-        if kind == 2 {
-            return self.text(line, c.width, last);
-        }
-        if kind == 3 {
-            return self.letter(line, letters, place, place + last);
-        }
-        if kind == 4 {
-            let g = group_at(last);
-            let got = self.group(line, g);
-            let three = got.three;
-            let next = got.next;
-            return CellRead {
-                cell: grouped(three, at, g),
-                next,
-            };
-        }
-        self.printed(line, c.width, last as u8)
+        let column = self.at + 1 + (width - rest.len());
+        self.past(width, Err(Reason::Separator.at(column)))
     }
 
     // Any column of a table, after the first k numbers of the record.
@@ -261,48 +197,44 @@ impl Cursor {
         self,
         line: &[u8],
         c: Column,
-        ranges: &[i64],
-        letters: &[u8],
+        layout: &Layout<'_>,
         flags: &[u8],
         values: &[i64],
         k: usize,
-    ) -> CellRead
-        requires { (c.place < 512) × ((c.last < 128) × Readable (col_of c ranges.now letters.now) self.at (length line.now) k (length flags.now) (length values.now)) }
-        ensures { Found (read_cell (col_of c ranges.now letters.now) (take k (slots_of flags.now values.now)) self.at (slice self.at (self.at + width (col_of c ranges.now letters.now)) line.now)) result self.at (width (col_of c ranges.now letters.now)) (slice self.at (self.at + width (col_of c ranges.now letters.now)) line.now) }
+    ) -> Read<Result<Cell, Refusal>>
+        requires { Readable (col_of c layout.now.ranges.now layout.now.letters.now) self.at (length line.now) k (length flags.now) (length values.now) }
+        ensures { Found (read_cell (col_of c layout.now.ranges.now layout.now.letters.now) (take k (slots_of flags.now values.now)) self.at (slice self.at (self.at + width_by c) line.now)) result self.at (width_by c) (slice self.at (self.at + width_by c) line.now) }
     {
-        let at = self.at;
-        let kind = c.kind;
-        let last = c.last;
-        if kind == 0 {
-            let got = self.integer(line, c.width);
-            let field = got.field;
-            let next = got.next;
-            if last == 2 {
-                return CellRead {
-                    cell: judged_day(field, at, c, flags, values, k),
-                    next,
-                };
+        match c {
+            Column::Number {
+                form,
+                required,
+                range,
+            } => {
+                let read = self.number(line, form);
+                let range = usize::from(range);
+                read.with(judged(
+                    read.value,
+                    self.at,
+                    required,
+                    range,
+                    layout.ranges,
+                    flags,
+                    values,
+                    k,
+                ))
             }
-            return CellRead {
-                cell: judged(field, at, c, ranges),
-                next,
-            };
-        }
-        if kind == 1 {
-            let got = self.decimal(line, c.width, c.place);
-            let field = got.field;
-            let next = got.next;
-            if last == 2 {
-                return CellRead {
-                    cell: judged_day(field, at, c, flags, values, k),
-                    next,
-                };
+            Column::Text { width, rule } => self.text(line, width, rule),
+            Column::Letter { first, count } => {
+                let set = layout.set(usize::from(first), usize::from(count));
+                self.letter(line, set)
             }
-            return CellRead {
-                cell: judged(field, at, c, ranges),
-                next,
-            };
+            Column::Group { number } => {
+                let g = group_at(usize::from(number));
+                let read = self.group(line, g);
+                read.with(grouped(read.value, self.at, g))
+            }
+            Column::Printed { width, byte } => self.printed(line, width, byte),
         }
-        self.other(line, c, letters)
     }
 }

@@ -1,17 +1,16 @@
 // A group of three numbers with marks between them, read and written: the clock time i2:i2:f6.3, the date i4/i2/i2.
 ghost use Rattle.std.specs.Prelude.{◌≡◌, ◌&&◌, List, ◌+◌, ◌≤◌, length, get_or, T, pos};
-ghost use Rattle.std.proofs.Math.Seq.{slice};
 ghost use Rattle.columns.specs.Column.{Slot, missing, given, clock_time, calendar_date, group_width, good_group};
 ghost use Rattle.columns.specs.Group.{parts_range, group_range, three_of, group_field, group_bytes, group_holds, put_group};
 ghost use Rattle.columns.specs.Number.{form_width, good_form, zero_filled};
 ghost use Rattle.columns.specs.Table.{group_at, slot_of, Wrote, placed};
 
-use super::Outcome;
-use super::bytes::{blanks, skip_blanks};
+use super::bytes::{blanks, is_blank};
 use super::calendar::is_day;
 use super::column::in_range;
 use super::number::{Field, Form, read_number, width_of};
 use super::written::{holds_number, magnitude_of, write_zeros};
+use super::{Reason, Refusal};
 
 // What a group holds: nothing, its three numbers, or bytes of no good form.
 #[derive(Clone, Copy)]
@@ -43,7 +42,7 @@ fn clock_time() -> Group
     ensures { result ≡ clock_time }
 {
     Group {
-        mark: 58,
+        mark: b':',
         dated: false,
         first: Part {
             form: Form::Integer(2),
@@ -67,7 +66,7 @@ fn calendar_date() -> Group
     ensures { result ≡ calendar_date }
 {
     Group {
-        mark: 47,
+        mark: b'/',
         dated: true,
         first: Part {
             form: Form::Integer(4),
@@ -92,9 +91,10 @@ pub fn group_at(number: usize) -> Group
     ensures { result ≡ group_at number }
 {
     if number == 0 {
-        return clock_time();
+        clock_time()
+    } else {
+        calendar_date()
     }
-    calendar_date()
 }
 
 // The columns that a group takes.
@@ -102,117 +102,64 @@ pub fn group_width(g: Group) -> usize
     requires { T (good_group g) }
     ensures { (result ≡ group_width g) × (result ≤ 64) }
 {
-    let first = g.first;
-    let second = g.second;
-    let third = g.third;
-    let a = first.form;
-    let b = second.form;
-    let c = third.form;
-    width_of(a) + 1 + width_of(b) + 1 + width_of(c)
+    width_of(g.first.form) + 1 + width_of(g.second.form) + 1 + width_of(g.third.form)
 }
 
 // All three numbers, or bad form.
 fn three_of(a: Field, b: Field, c: Field) -> Three
     ensures { result ≡ three_of a b c }
 {
-    match a {
-        Field::Missing => Three::Bad,
-        Field::Bad => Three::Bad,
-        Field::Value(x) => match b {
-            Field::Missing => Three::Bad,
-            Field::Bad => Three::Bad,
-            Field::Value(y) => match c {
-                Field::Missing => Three::Bad,
-                Field::Bad => Three::Bad,
-                Field::Value(z) => Three::Given(x, y, z),
-            },
-        },
+    match (a, b, c) {
+        (Field::Value(x), Field::Value(y), Field::Value(z)) => Three::Given(x, y, z),
+        _ => Three::Bad,
     }
 }
 
-// The group in the columns after the first `at`.
-pub fn read_group(line: &[u8], at: usize, g: Group) -> Three
-    requires { (at + group_width g ≤ length line.now) × T (good_group g) }
-    ensures { result ≡ group_field g (slice at (at + group_width g) line.now) }
+// The group that `s` is.
+pub fn read_group(s: &[u8], g: Group) -> Three
+    requires { (length s.now ≡ group_width g) × T (good_group g) }
+    ensures { result ≡ group_field g s.now }
 {
-    let mark = g.mark;
-    let first = g.first;
-    let second = g.second;
-    let third = g.third;
-    let a = first.form;
-    let b = second.form;
-    let c = third.form;
-    let one = at + width_of(a);
-    let two = one + 1 + width_of(b);
-    let end = two + 1 + width_of(c);
-    let start = skip_blanks(line, at, end);
-    if start == end {
+    let one = width_of(g.first.form);
+    let two = one + 1 + width_of(g.second.form);
+    if is_blank(s) {
         return Three::Missing;
     }
-    if line[one] != mark {
-        return Three::Bad;
-    }
-    if line[two] != mark {
+    if s[one] != g.mark || s[two] != g.mark {
         return Three::Bad;
     }
     three_of(
-        read_number(line, at, a),
-        read_number(line, one + 1, b),
-        read_number(line, two + 1, c),
+        read_number(&s[..one], g.first.form),
+        read_number(&s[one + 1..two], g.second.form),
+        read_number(&s[two + 1..], g.third.form),
     )
-}
-
-fn all_three(a: bool, b: bool, c: bool) -> bool
-    ensures { result ≡ (a && (b && c)) }
-{
-    if !a {
-        return false;
-    }
-    if !b {
-        return false;
-    }
-    c
 }
 
 // Three numbers in their ranges.
 fn in_parts(g: Group, x: i64, y: i64, z: i64) -> bool
     ensures { (seen : List Slot) → result ≡ parts_range g seen x y z }
 {
-    let a = g.first;
-    let b = g.second;
-    let c = g.third;
-    all_three(
-        in_range(a.low, a.high, x),
-        in_range(b.low, b.high, y),
-        in_range(c.low, c.high, z),
-    )
+    let later = in_range(g.second.low, g.second.high, y) & in_range(g.third.low, g.third.high, z);
+    in_range(g.first.low, g.first.high, x) & later
 }
 
 // The same, and of a date a day that exists.
 pub fn in_group(g: Group, x: i64, y: i64, z: i64) -> bool
     ensures { (seen : List Slot) → result ≡ group_range g seen x y z }
 {
-    let ok = in_parts(g, x, y, z);
-    if !g.dated {
-        return ok;
+    if g.dated && in_parts(g, x, y, z) {
+        is_day(Field::Value(x), Field::Value(y), z)
+    } else {
+        in_parts(g, x, y, z)
     }
-    if !ok {
-        return false;
-    }
-    is_day(Field::Value(x), Field::Value(y), z)
 }
 
 fn holds_group(g: Group, x: i64, y: i64, z: i64) -> bool
     requires { T (good_group g) }
     ensures { result ≡ group_holds g x y z }
 {
-    let first = g.first;
-    let second = g.second;
-    let third = g.third;
-    let a = first.form;
-    let b = second.form;
-    let c = third.form;
-    all_three(holds_number(a, x), holds_number(b, y), holds_number(c, z))
+    let later = holds_number(g.second.form, y) & holds_number(g.third.form, z);
+    holds_number(g.first.form, x) & later
 }
 
 // A number of a form, filled with zeros, from place `at` on.
@@ -228,50 +175,50 @@ fn write_parts(out: &mut [u8], g: Group, x: u64, y: u64, z: u64)
     requires { (length out.old ≡ group_width g) × T (good_group g) }
     ensures { out.new ≡ group_bytes g x y z }
 {
-    let mark = g.mark;
-    let first = g.first;
-    let second = g.second;
-    let third = g.third;
-    let a = first.form;
-    let b = second.form;
-    let c = third.form;
-    let one = width_of(a);
-    let two = one + 1 + width_of(b);
-    put_part(out, 0, a, x);
-    out[one] = mark;
-    put_part(out, one + 1, b, y);
-    out[two] = mark;
-    put_part(out, two + 1, c, z);
+    let one = width_of(g.first.form);
+    let two = one + 1 + width_of(g.second.form);
+    put_part(out, 0, g.first.form, x);
+    out[one] = g.mark;
+    put_part(out, one + 1, g.second.form, y);
+    out[two] = g.mark;
+    put_part(out, two + 1, g.third.form, z);
 }
 
-fn write_three(out: &mut [u8], at: usize, g: Group, x: i64, y: i64, z: i64) -> Outcome
+fn write_three(out: &mut [u8], at: usize, g: Group, x: i64, y: i64, z: i64) -> Result<(), Refusal>
     requires { (length out.old ≡ group_width g) × (T (good_group g) × (at ≤ 4096)) }
     ensures { (seen : List Slot) → Wrote (put_group g seen at (given x) (given y) (given z)) result out.old out.new }
 {
     if !holds_group(g, x, y, z) {
-        return Outcome::Refused(super::WIDE, at + 1);
+        return Err(Reason::Wide.at(at + 1));
     }
     if !in_group(g, x, y, z) {
-        return Outcome::Refused(super::RANGE, at + 1);
+        return Err(Reason::Range.at(at + 1));
     }
     write_parts(out, g, magnitude_of(x), magnitude_of(y), magnitude_of(z));
-    Outcome::Done
+    Ok(())
 }
 
-fn write_none(out: &mut [u8], at: usize, g: Group, fb: u8, y: i64, fc: u8, z: i64) -> Outcome
+// A group whose first number is missing: the others are missing too.
+fn write_none(
+    out: &mut [u8],
+    at: usize,
+    g: Group,
+    fb: u8,
+    y: i64,
+    fc: u8,
+    z: i64,
+) -> Result<(), Refusal>
     requires { (length out.old ≡ group_width g) × (at ≤ 4096) }
     ensures { (seen : List Slot) → Wrote (put_group g seen at missing (slot_of fb y) (slot_of fc z)) result out.old out.new }
 {
-    if fb != 0 {
-        return Outcome::Refused(super::REQUIRED, at + 1);
-    }
-    if fc != 0 {
-        return Outcome::Refused(super::REQUIRED, at + 1);
+    if fb != 0 || fc != 0 {
+        return Err(Reason::Required.at(at + 1));
     }
     blanks(out);
-    Outcome::Done
+    Ok(())
 }
 
+// Three numbers, each with its flag: all missing, or none.
 fn write_flagged(
     out: &mut [u8],
     at: usize,
@@ -282,18 +229,15 @@ fn write_flagged(
     y: i64,
     fc: u8,
     z: i64,
-) -> Outcome
+) -> Result<(), Refusal>
     requires { (length out.old ≡ group_width g) × (T (good_group g) × (at ≤ 4096)) }
     ensures { (seen : List Slot) → Wrote (put_group g seen at (slot_of fa x) (slot_of fb y) (slot_of fc z)) result out.old out.new }
 {
     if fa == 0 {
         return write_none(out, at, g, fb, y, fc, z);
     }
-    if fb == 0 {
-        return Outcome::Refused(super::REQUIRED, at + 1);
-    }
-    if fc == 0 {
-        return Outcome::Refused(super::REQUIRED, at + 1);
+    if fb == 0 || fc == 0 {
+        return Err(Reason::Required.at(at + 1));
     }
     write_three(out, at, g, x, y, z)
 }
@@ -306,7 +250,7 @@ pub fn write_group(
     flags: &[u8],
     values: &[i64],
     k: usize,
-) -> Outcome
+) -> Result<(), Refusal>
     requires { (length out.old ≡ group_width g) × (T (good_group g) × ((at ≤ 4096) × ((k + 3 ≤ length flags.now) × (k + 3 ≤ length values.now)))) }
     ensures { (seen : List Slot) → Wrote (put_group g seen at (slot_of (get_or flags.now k 0) (get_or values.now k (pos 0))) (slot_of (get_or flags.now (k + 1) 0) (get_or values.now (k + 1) (pos 0))) (slot_of (get_or flags.now (k + 2) 0) (get_or values.now (k + 2) (pos 0)))) result out.old out.new }
 {

@@ -2,6 +2,9 @@
 // interpret any table.
 #![tactic(auto)]
 
+ghost use Rattle.std.specs.Prelude.{◌≡◌};
+ghost use Rattle.columns.specs.Answer.{number_of, refusal_at};
+
 pub mod bytes;
 pub mod calendar;
 pub mod column;
@@ -15,29 +18,53 @@ pub mod word;
 pub mod writer;
 pub mod written;
 
-// The numbers answered for a column, and for a place that is too short (document 01, "Numbers answered").
-pub const BARRED: u8 = 2;
+// Why a line, a record or a place is refused: the numbers of document 01, "Numbers answered", and of document 02.
+#[derive(Clone, Copy, PartialEq, Eq, Debug)]
+pub enum Reason {
+    Length = 1,
+    Barred = 2,
+    Type = 3,
+    Separator = 4,
+    Required = 5,
+    Form = 6,
+    Range = 7,
+    Letter = 8,
+    Check = 9,
+    Wide = 10,
+    Short = 11,
+    Full = 12,
+    Disorder = 13,
+    OutOfPlace = 14,
+    NotClosed = 15,
+    LinksFull = 16,
+    // a filled field that a line has no columns for (document 02, Wish 7)
+    Dropped = 17,
+}
 
-pub const SEPARATOR: u8 = 4;
+// The number that is answered.
+impl From<Reason> for u8 {
+    ghost from_gives = { λ reason n. n ≡ number_of reason };
 
-pub const REQUIRED: u8 = 5;
+    fn from(reason: Reason) -> u8 {
+        reason as u8
+    }
+}
 
-pub const FORM: u8 = 6;
+// A refusal: why, and the column.
+#[derive(Clone, Copy, PartialEq, Eq, Debug)]
+pub struct Refusal {
+    pub reason: Reason,
+    pub column: usize,
+}
 
-pub const RANGE: u8 = 7;
-
-pub const LETTER: u8 = 8;
-
-pub const WIDE: u8 = 10;
-
-pub const SHORT: u8 = 11;
-
-// A filled field that a line has no columns for (document 02, Wish 7).
-pub const DROPPED: u8 = 17;
-
-// Done, or the number of a refusal and its column.
-#[derive(Clone, Copy)]
-pub enum Outcome {
-    Done,
-    Refused(u8, usize),
+impl Reason {
+    // The refusal at a column.
+    pub fn at(self, column: usize) -> Refusal
+        ensures { result ≡ refusal_at self column }
+    {
+        Refusal {
+            reason: self,
+            column,
+        }
+    }
 }

@@ -1,16 +1,8 @@
 // Number fields iW and fW.D, read.
 ghost use Rattle.std.specs.Prelude.{◌≡◌, ◌+◌, ◌-◌, ◌*◌, ◌^◌, ◌≤◌, ◌<◌, length, T, false};
-ghost use Rattle.std.proofs.Math.Seq.{slice};
 ghost use Rattle.columns.specs.Number.{digits, number, scan, fraction, magnitude, signed, with_sign, value, int_field, dec_field, plain_scan, Quick, form_width, good_form, field_of};
 
-use super::bytes::{is_digit, skip_blanks};
-
-// Digits to the last column.
-#[derive(Clone, Copy)]
-pub enum Digits {
-    Number(u64),
-    NoNumber,
-}
+use super::bytes::{is_blank, is_digit, trim};
 
 // A sign and a number, before minus zero becomes zero.
 #[derive(Clone, Copy)]
@@ -43,22 +35,19 @@ pub enum Plain {
     Other,
 }
 
-// The digits from `from` to `to`, after the number `before`.
-pub fn read_digits(line: &[u8], from: usize, to: usize, before: u64) -> Digits
-    requires { (from ≤ to) × ((to ≤ length line.now) × ((before + 1) * 10 ^ (to - from) ≤ 10 ^ 18)) }
-    ensures { result ≡ digits before (slice from to line.now) }
+// The number of digits after the number `before`; none where another byte is among them.
+pub fn read_digits(s: &[u8], before: u64) -> Option<u64>
+    requires { (before + 1) * 10 ^ length s.now ≤ 10 ^ 18 }
+    ensures { result ≡ digits before s.now }
 {
     let mut n = before;
-    let mut i = from;
-    while i < to {
-        let b = line[i];
-        if !is_digit(b) {
-            return Digits::NoNumber;
+    for b in s {
+        if !is_digit(*b) {
+            return None;
         }
-        n = n * 10 + ((b - 48) as u64);
-        i += 1;
+        n = n * 10 + u64::from(*b - b'0');
     }
-    Digits::Number(n)
+    Some(n)
 }
 
 // The number with its sign.
@@ -69,60 +58,45 @@ pub fn with_sign(minus: bool, n: u64) -> i64
     if minus { 0 - (n as i64) } else { n as i64 }
 }
 
-// One or more digits from `from` to `to`, and their sign.
-fn scan_number(line: &[u8], from: usize, to: usize, minus: bool) -> Scan
-    requires { (from ≤ to) × ((to ≤ length line.now) × (to - from ≤ 18)) }
-    ensures { result ≡ with_sign minus (number (slice from to line.now)) }
+// One or more digits, and their sign.
+fn scan_number(s: &[u8], minus: bool) -> Scan
+    requires { length s.now ≤ 18 }
+    ensures { result ≡ with_sign minus (number s.now) }
 {
-    if from == to {
+    if s.is_empty() {
         return Scan::Malformed;
     }
-    match read_digits(line, from, to, 0) {
-        Digits::Number(n) => Scan::Number(minus, n),
-        Digits::NoNumber => Scan::Malformed,
+    match read_digits(s, 0) {
+        Some(n) => Scan::Number(minus, n),
+        None => Scan::Malformed,
     }
 }
 
-// Blanks, an optional minus, then digits from `from` to `to`.
-fn scan_whole(line: &[u8], from: usize, to: usize) -> Scan
-    requires { (from ≤ to) × ((to ≤ length line.now) × (to - from ≤ 18)) }
-    ensures { result ≡ scan (slice from to line.now) }
+// Blanks, an optional minus, then digits.
+fn scan_whole(s: &[u8]) -> Scan
+    requires { length s.now ≤ 18 }
+    ensures { result ≡ scan s.now }
 {
-    let start = skip_blanks(line, from, to);
-    if start == to {
-        return Scan::Blank;
+    let rest = trim(s);
+    match rest.split_first() {
+        None => Scan::Blank,
+        Some((b'-', digits)) => scan_number(digits, true),
+        Some(_) => scan_number(rest, false),
     }
-    if line[start] == 45 {
-        return scan_number(line, start + 1, to, true);
-    }
-    scan_number(line, start, to, false)
 }
 
-// The point and the digits after it, from `from` to `to`, after the whole part.
-fn scan_fraction(line: &[u8], from: usize, to: usize, whole: Scan) -> Scan
-    requires { (from < to) × ((to ≤ length line.now) × ((magnitude whole + 1) * 10 ^ (to - (from + 1)) ≤ 10 ^ 18)) }
-    ensures { result ≡ fraction whole (slice from to line.now) }
+// The point and the digits after it, after the whole part.
+fn scan_fraction(s: &[u8], whole: Scan) -> Scan
+    requires { (1 ≤ length s.now) × ((magnitude whole + 1) * 10 ^ (length s.now - 1) ≤ 10 ^ 18) }
+    ensures { result ≡ fraction whole s.now }
 {
     match whole {
-        Scan::Blank => {
-            let start = skip_blanks(line, from, to);
-            if start == to {
-                Scan::Blank
-            } else {
-                Scan::Malformed
-            }
-        }
-        Scan::Number(minus, n) => {
-            if line[from] == 46 {
-                match read_digits(line, from + 1, to, n) {
-                    Digits::Number(m) => Scan::Number(minus, m),
-                    Digits::NoNumber => Scan::Malformed,
-                }
-            } else {
-                Scan::Malformed
-            }
-        }
-        Scan::Malformed => Scan::Malformed,
+        Scan::Blank if is_blank(s) => Scan::Blank,
+        Scan::Number(minus, n) if s[0] == b'.' => match read_digits(&s[1..], n) {
+            Some(m) => Scan::Number(minus, m),
+            None => Scan::Malformed,
+        },
+        _ => Scan::Malformed,
     }
 }
 
@@ -137,93 +111,85 @@ fn field_of(s: Scan) -> Field
     }
 }
 
-// Blanks and then digits from `from` to `to`, in one loop: called with a constant width it is unrolled.
-pub fn read_plain(line: &[u8], from: usize, to: usize) -> Plain
-    requires { (from ≤ to) × ((to ≤ length line.now) × (to - from ≤ 18)) }
-    ensures { result ≡ plain_scan false 0 (slice from to line.now) }
+// Blanks and then digits, in one loop: of a constant width it is unrolled.
+#[inline(always)]
+pub fn read_plain(s: &[u8]) -> Plain
+    requires { length s.now ≤ 18 }
+    ensures { result ≡ plain_scan false 0 s.now }
 {
-    let mut n: u64 = 0;
+    let mut n = 0u64;
     let mut any = false;
-    let mut i = from;
-    while i < to {
-        let b = line[i];
-        if is_digit(b) {
-            n = n * 10 + ((b - 48) as u64);
+    for b in s {
+        if is_digit(*b) {
+            n = n * 10 + u64::from(*b - b'0');
             any = true;
-        } else if any {
-            return Plain::Other;
-        } else if b != 32 {
+        } else if any || *b != b' ' {
             return Plain::Other;
         }
-        i += 1;
     }
-    if any {
-        return Plain::Number(n);
-    }
-    Plain::Blank
+    if any { Plain::Number(n) } else { Plain::Blank }
 }
 
 // The usual widths as constants; other widths go the general way.
-fn quick(line: &[u8], at: usize, width: usize) -> Plain
-    requires { at + width ≤ length line.now }
-    ensures { Quick result (slice at (at + width) line.now) }
+#[inline(always)]
+fn quick(s: &[u8]) -> Plain
+    ensures { Quick result s.now }
 {
-    match width {
-        2 => read_plain(line, at, at + 2),
-        3 => read_plain(line, at, at + 3),
-        4 => read_plain(line, at, at + 4),
+    match s.len() {
+        2 => read_plain(&s[..2]),
+        3 => read_plain(&s[..3]),
+        4 => read_plain(&s[..4]),
         _ => Plain::Other,
     }
 }
 
-// The integer field in the `width` columns after the first `at`, whatever it holds.
-pub fn read_any_int(line: &[u8], at: usize, width: usize) -> Field
-    requires { (at + width ≤ length line.now) × (width ≤ 18) }
-    ensures { result ≡ int_field (slice at (at + width) line.now) }
+// The integer field that `s` is, whatever it holds.
+pub fn read_any_int(s: &[u8]) -> Field
+    requires { length s.now ≤ 18 }
+    ensures { result ≡ int_field s.now }
 {
-    field_of(scan_whole(line, at, at + width))
+    field_of(scan_whole(s))
 }
 
 // The same, the usual case first.
-pub fn read_int(line: &[u8], at: usize, width: usize) -> Field
-    requires { (at + width ≤ length line.now) × (width ≤ 18) }
-    ensures { result ≡ int_field (slice at (at + width) line.now) }
+#[inline(always)]
+pub fn read_int(s: &[u8]) -> Field
+    requires { length s.now ≤ 18 }
+    ensures { result ≡ int_field s.now }
 {
-    match quick(line, at, width) {
+    match quick(s) {
         Plain::Number(n) => Field::Value(n as i64),
         Plain::Blank => Field::Missing,
-        Plain::Other => read_any_int(line, at, width),
+        Plain::Other => read_any_int(s),
     }
 }
 
-// The decimal field in the `width` columns after the first `at`, with a number of decimals.
-pub fn read_dec(line: &[u8], at: usize, width: usize, decimals: usize) -> Field
-    requires { (at + width ≤ length line.now) × ((decimals < width) × (width ≤ 18)) }
-    ensures { result ≡ dec_field decimals (slice at (at + width) line.now) }
+// The decimal field that `s` is, with a number of decimals.
+pub fn read_dec(s: &[u8], decimals: usize) -> Field
+    requires { (decimals < length s.now) × (length s.now ≤ 18) }
+    ensures { result ≡ dec_field decimals s.now }
 {
-    let end = at + width;
-    let point = end - (decimals + 1);
-    let whole = scan_whole(line, at, point);
-    field_of(scan_fraction(line, point, end, whole))
+    let point = s.len() - (decimals + 1);
+    field_of(scan_fraction(&s[point..], scan_whole(&s[..point])))
 }
 
 // The columns that a number of a form takes.
+#[inline(always)]
 pub fn width_of(form: Form) -> usize
     ensures { result ≡ form_width form }
 {
     match form {
-        Form::Integer(width) => width,
-        Form::Decimal(width, _) => width,
+        Form::Integer(width) | Form::Decimal(width, _) => width,
     }
 }
 
-// The number of a form in the columns after the first `at`.
-pub fn read_number(line: &[u8], at: usize, form: Form) -> Field
-    requires { (at + form_width form ≤ length line.now) × T (good_form form) }
-    ensures { result ≡ field_of form (slice at (at + form_width form) line.now) }
+// The number of a form that `s` is.
+pub fn read_number(s: &[u8], form: Form) -> Field
+    requires { (length s.now ≡ form_width form) × T (good_form form) }
+    ensures { result ≡ field_of form s.now }
 {
     match form {
-        Form::Integer(width) => read_any_int(line, at, width),
-        Form::Decimal(width, decimals) => read_dec(line, at, width, decimals),
+        Form::Integer(_) => read_any_int(s),
+        Form::Decimal(_, decimals) => read_dec(s, decimals),
     }
 }

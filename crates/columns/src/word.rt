@@ -6,19 +6,11 @@ ghost use Rattle.columns.specs.Word.{word_bytes, word_of};
 pub fn write_word(out: &mut [u8], n: u64)
     ensures { out.new ≡ word_bytes (length out.old) n }
 {
-    let mut i = out.len();
     let mut m = n;
-    while 0 < i {
-        i -= 1;
+    for i in (0..out.len()).rev() {
         out[i] = (m % 256) as u8;
-        m = m / 256;
+        m /= 256;
     }
-}
-
-fn wide(x: u8) -> u64
-    ensures { result ≡ x }
-{
-    x as u64
 }
 
 // The number whose bytes are those of s.
@@ -26,11 +18,9 @@ pub fn read_word(s: &[u8]) -> u64
     requires { length s.now ≤ 8 }
     ensures { result ≡ word_of 0 s.now }
 {
-    let mut n: u64 = 0;
-    let mut i = 0;
-    while i < s.len() {
-        n = n * 256 + wide(s[i]);
-        i += 1;
+    let mut n = 0u64;
+    for b in s {
+        n = n * 256 + u64::from(*b);
     }
     n
 }

@@ -8,12 +8,10 @@ use super::number::Form;
 pub fn write_digits(out: &mut [u8], n: u64)
     ensures { out.new ≡ digits_of (length out.old) n }
 {
-    let mut i = out.len();
     let mut m = n;
-    while 0 < i {
-        i -= 1;
-        out[i] = 48 + ((m % 10) as u8);
-        m = m / 10;
+    for i in (0..out.len()).rev() {
+        out[i] = b'0' + (m % 10) as u8;
+        m /= 10;
     }
 }
 
@@ -22,23 +20,14 @@ pub fn power(k: usize) -> u64
     requires { k ≤ 18 }
     ensures { result ≡ 10 ^ k }
 {
-    let mut p: u64 = 1;
-    let mut i = 0;
-    while i < k {
-        p = p * 10;
-        i += 1;
-    }
-    p
+    10u64.pow(k as u32)
 }
 
 // The number without its sign.
 pub fn magnitude_of(v: i64) -> u64
     ensures { result ≡ nat_abs v }
 {
-    if v < 0 {
-        return ((0 - (v + 1)) as u64) + 1;
-    }
-    v as u64
+    v.unsigned_abs()
 }
 
 // Whether an integer field of `width` columns holds v.
@@ -46,11 +35,8 @@ pub fn holds_int(width: usize, v: i64) -> bool
     requires { (1 ≤ width) × (width ≤ 18) }
     ensures { result ≡ holds_int width v }
 {
-    let n = magnitude_of(v);
-    if v < 0 {
-        return n < power(width - 1);
-    }
-    n < power(width)
+    let places = if v < 0 { width - 1 } else { width };
+    magnitude_of(v) < power(places)
 }
 
 // Whether a decimal field of `width` columns holds v.
@@ -58,11 +44,8 @@ pub fn holds_dec(width: usize, v: i64) -> bool
     requires { (3 ≤ width) × (width ≤ 18) }
     ensures { result ≡ holds_dec width v }
 {
-    let n = magnitude_of(v);
-    if v < 0 {
-        return n < power(width - 2);
-    }
-    n < power(width - 1)
+    let places = if v < 0 { width - 2 } else { width - 1 };
+    magnitude_of(v) < power(places)
 }
 
 // The integer field that `out` is.
@@ -72,11 +55,11 @@ pub fn write_int(out: &mut [u8], v: i64)
 {
     let n = magnitude_of(v);
     if v < 0 {
-        out[0] = 45;
+        out[0] = b'-';
         write_digits(&mut out[1..], n);
-        return;
+    } else {
+        write_digits(out, n);
     }
-    write_digits(out, n);
 }
 
 // What is still to be written to the left: digits of a number, then its minus, then blanks.
@@ -91,32 +74,22 @@ impl Pen {
     pub fn byte(self) -> u8
         ensures { result ≡ byte_of self }
     {
-        let left = self.left;
         if self.more {
-            return 48 + ((left % 10) as u8);
+            b'0' + (self.left % 10) as u8
+        } else if self.minus {
+            b'-'
+        } else {
+            b' '
         }
-        if self.minus {
-            return 45;
-        }
-        32
     }
 
     pub fn next(self) -> Pen
         ensures { result ≡ next_pen self }
     {
-        let left = self.left;
-        let minus = self.minus;
-        if self.more {
-            return Pen {
-                more: 10 <= left,
-                minus,
-                left: left / 10,
-            };
-        }
         Pen {
-            more: false,
-            minus: false,
-            left: left / 10,
+            more: self.more && 10 <= self.left,
+            minus: self.more && self.minus,
+            left: self.left / 10,
         }
     }
 }
@@ -125,10 +98,8 @@ impl Pen {
 fn write_back(out: &mut [u8], pen: Pen)
     ensures { out.new ≡ back (length out.old) pen }
 {
-    let mut i = out.len();
     let mut p = pen;
-    while 0 < i {
-        i -= 1;
+    for i in (0..out.len()).rev() {
         out[i] = p.byte();
         p = p.next();
     }
@@ -143,7 +114,7 @@ pub fn write_dec(out: &mut [u8], decimals: usize, v: i64)
     let point = out.len() - (decimals + 1);
     let whole = n / power(decimals);
     write_digits(&mut out[point + 1..], n);
-    out[point] = 46;
+    out[point] = b'.';
     let pen = Pen {
         more: true,
         minus: v < 0,
@@ -184,7 +155,7 @@ fn write_zero_dec(out: &mut [u8], decimals: usize, n: u64)
     let point = out.len() - (decimals + 1);
     let whole = n / power(decimals);
     write_digits(&mut out[point + 1..], n);
-    out[point] = 46;
+    out[point] = b'.';
     write_digits(&mut out[..point], whole);
 }
 

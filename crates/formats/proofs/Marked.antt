@@ -4,6 +4,7 @@ use mathlib.Core.List.{List, [], ◌∷◌, map}
 use Prim.Native.Nat.{ℕ}
 use lib.IntN.{ℤ, pos, negsuc}
 use Rattle.columns.specs.Answer.{Answer, ok, refusal, bad_form, too_wide}
+use Rattle.columns.specs.declared.Reason.{Reason}
 use Rattle.columns.specs.Column.{Slot, missing, given, Rec}
 use Rattle.columns.specs.Reading.{read_cell}
 use Rattle.columns.specs.Writing.{write_cell}
@@ -19,7 +20,7 @@ pub data Asked : Type 0 where
 pub data Answered : Type 0 where
   reading : Slot → Answered
   written : Answered
-  refused : ℕ → Answered
+  refused : Reason → Answered
   character : ℕ → Answered
 
 abbrev pub first_number : List Slot → Answered

@@ -1,5 +1,5 @@
 -- A block of rows, as it is read, over its header and the reader of its lines. Document 01, "The block".
-use Rattle.std.specs.Prelude.{ℕ, suc, ◌+◌, List, [], ◌∷◌, Bool, true, false, length, get_or, eqb, ltb}
+use Rattle.std.specs.Prelude.{ℕ, suc, ◌+◌, List, [], ◌∷◌, Bool, true, false, length, get_or, eqb, ltb, Result, Ok, Err}
 use Rattle.columns.specs.Answer.{pick, Answer, ok, refusal, barred_byte}
 use Rattle.columns.specs.Bytes.{is_none}
 use Rattle.columns.specs.Column.{Rec}
@@ -7,15 +7,18 @@ use Rattle.columns.specs.Answer.{unless, differs, wrong_length}
 use Rattle.formats.specs.Lines.{lines_of}
 use Rattle.formats.specs.Row.{RowFormat, lowest_barred_byte, read_row}
 use Rattle.columns.specs.Bytes.{same_bytes}
-use Rattle.formats.specs.declared.block.Block.{Block}
-use Rattle.formats.specs.declared.block.Block.TheVariants as B
+use Rattle.columns.specs.declared.Reason.{Reason}
+use Rattle.columns.specs.declared.Reason.TheVariants as Why
+use Rattle.formats.specs.Refused.{refused_at}
+use Rattle.formats.specs.declared.LineRefusal.{LineRefusal}
+use Rattle.formats.specs.declared.block.Counts.{Counts}
 
 -- first line not the header, or comment before any row
-abbrev pub out_of_place : ℕ
-out_of_place = 14
+abbrev pub out_of_place : Reason
+out_of_place = Why.OutOfPlace
 
-abbrev pub not_closed : ℕ
-not_closed = 15
+abbrev pub not_closed : Reason
+not_closed = Why.NotClosed
 
 -- ---- a line by itself
 
@@ -64,14 +67,20 @@ read_comment seen l =
 -- ---- the lines of a block: the answer has the count of rows, the comment count and the bytes used; or a refusal's number,
 -- column and line
 
+abbrev pub Block : Type 0
+Block = Result Counts LineRefusal
+
+abbrev pub read_as : ℕ → ℕ → ℕ → Block
+read_as rows comments used = Ok (record { rows = rows; comments = comments; used = used })
+
 -- a line that was read adds to what is answered for the lines after it
 abbrev pub plus : ℕ → ℕ → ℕ → Block → Block
-plus p k u (B.Read rows comments used) = B.Read (p + rows) (k + comments) (u + used)
-plus p k u (B.Refused number column line) = B.Refused number column line
+plus p k u (Ok c) = read_as (p + c.rows) (k + c.comments) (u + c.used)
+plus p k u (Err e) = Err e
 
 -- the answer for line n: its refusal, or what is answered with the lines after it
 abbrev pub on_line : {A : Type 0} → ℕ → Answer A → Block → Block
-on_line n (refusal number column) rest = B.Refused number column n
+on_line n (refusal number column) rest = refused_at number column n
 on_line n (ok x) rest = rest
 
 -- a line and its newline
@@ -80,30 +89,30 @@ with_newline l = length l + 1
 
 -- line n, a line of the given kind; `rest` is what is answered for the lines after it, by whether a row was seen
 abbrev pub read_line : (List ℕ → Answer Rec) → Kind → ℕ → Bool → List ℕ → (Bool → Block) → Block
-read_line read closing n seen l rest = B.Read 0 0 (with_newline l)
+read_line read closing n seen l rest = read_as 0 0 (with_newline l)
 read_line read comment n seen l rest = on_line n (read_comment seen l) (plus 0 1 (with_newline l) (rest seen))
 read_line read row n seen l rest = on_line n (read l) (plus 1 0 (with_newline l) (rest true))
 
 -- the lines from line n on, until a closing line or the end
 unfoldable pub read_lines : (List ℕ → Answer Rec) → ℕ → Bool → List (List ℕ) → Block
-read_lines read n seen [] = B.Read 0 0 0
+read_lines read n seen [] = read_as 0 0 0
 read_lines read n seen (l ∷ ls) = read_line read (kind_of l) n seen l (λ s. read_lines read (suc n) s ls)
 
 -- the first line is the header, or 14 alone
 unfoldable pub read_headed : List ℕ → (List ℕ → Answer Rec) → List (List ℕ) → Block
-read_headed header read [] = B.Refused out_of_place 0 1
+read_headed header read [] = refused_at out_of_place 0 1
 read_headed header read (l ∷ ls) =
-    pick (is_header header l) (plus 0 0 (with_newline l) (read_lines read 2 false ls)) (B.Refused out_of_place 0 1)
+    pick (is_header header l) (plus 0 0 (with_newline l) (read_lines read 2 false ls)) (refused_at out_of_place 0 1)
 
 -- the block's last line may have no newline: no more bytes are used than there are
 abbrev pub at_most : ℕ → Block → Block
-at_most size (B.Read rows comments used) = B.Read rows comments (pick (ltb size used) size used)
-at_most size (B.Refused number column line) = B.Refused number column line
+at_most size (Ok c) = read_as c.rows c.comments (pick (ltb size c.used) size c.used)
+at_most size (Err e) = Err e
 
 -- at most 65,536 bytes
 unfoldable pub read_block_by : List ℕ → (List ℕ → Answer Rec) → List ℕ → Block
 read_block_by header read b =
-    pick (ltb 65536 (length b)) (B.Refused wrong_length 0 0) (at_most (length b) (read_headed header read (lines_of b)))
+    pick (ltb 65536 (length b)) (refused_at wrong_length 0 0) (at_most (length b) (read_headed header read (lines_of b)))
 
 -- the blocks of a row format, under their header
 pub record BlockFormat : Type 0 where

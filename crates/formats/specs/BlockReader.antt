@@ -1,10 +1,9 @@
 -- The lines of a block by their places. Document 01, "The block": lines come from a reader that holds the lent block and its
 -- place in it.
-use Rattle.std.specs.Prelude.{ℕ, ◌+◌, ◌-◌, List, length, take, drop, leb, ltb}
+use Rattle.std.specs.Prelude.{ℕ, ◌+◌, ◌-◌, List, Option, None, Some, length, take, drop, leb, ltb}
 use Rattle.columns.specs.Answer.{pick}
 use Rattle.formats.specs.Lines.{line_end}
 use Rattle.formats.specs.declared.block_reader.Line.{Line}
-use Rattle.formats.specs.declared.block_reader.Line.TheVariants as L
 
 -- the line that starts at a place
 abbrev pub line_of : List ℕ → ℕ → List ℕ
@@ -19,5 +18,5 @@ abbrev pub next_of : List ℕ → ℕ → ℕ
 next_of s at = past_newline s (line_end s at)
 
 -- the line that starts at a place: its start, its end, and the place after it; none at the end of the block
-abbrev pub line_at : List ℕ → ℕ → Line
-line_at s at = pick (leb (length s) at) L.End (L.Found at (line_end s at) (next_of s at))
+abbrev pub line_at : List ℕ → ℕ → Option Line
+line_at s at = pick (leb (length s) at) None (Some (record { start = at; end = line_end s at; next = next_of s at }))

@@ -1,11 +1,12 @@
 -- A block walked line by line: each call is told what the call before it met. Document 01, "The block": a comment belongs to the
 -- phase line before it.
-use Rattle.std.specs.Prelude.{◌≡◌, ℕ, ◌+◌, ◌-◌, List, [], ◌∷◌, length, take, drop, eqb, leb, ltb}
+use Rattle.std.specs.Prelude.{◌≡◌, ℕ, ◌+◌, ◌-◌, List, [], ◌∷◌, Option, None, length, take, drop, eqb, leb, ltb}
 use Rattle.columns.specs.Answer.{pick}
-use Rattle.columns.specs.Answer.{wrong_length}
+use Rattle.columns.specs.Answer.{wrong_length, number_of}
 use Rattle.formats.specs.Lines.{lines_of, line_end}
 use Rattle.formats.specs.Block.{Kind, closing, comment, row, kind_of, is_header, out_of_place}
-use Rattle.formats.specs.BlockReader.{line_of, next_of}
+use Rattle.formats.specs.BlockReader.{line_of, next_of, line_at}
+use Rattle.formats.specs.declared.block_reader.Line.{Line}
 use Rattle.formats.specs.declared.block_walk.BlockLine.{BlockLine}
 
 -- the kinds as numbers (house): no line there, the header, a row (a phase line, an arrival line), a comment, the closing line
@@ -37,12 +38,16 @@ known row n e x = record { kind = row_line; number = n + 1; end = e; next = x }
 
 abbrev pub headed : List ℕ → List ℕ → BlockLine
 headed header b =
-    pick (is_header header (line_of b 0)) (record { kind = header_line; number = 0; end = line_end b 0; next = next_of b 0 }) (nothing out_of_place)
+    pick (is_header header (line_of b 0)) (record { kind = header_line; number = 0; end = line_end b 0; next = next_of b 0 }) (nothing (number_of out_of_place))
 
 -- the first line: 1 in a block over 65,536 bytes; 14 where it is not the header, and where there is none
 unfoldable pub first_line : List ℕ → List ℕ → BlockLine
 first_line header b =
-    pick (ltb 65536 (length b)) (nothing wrong_length) (pick (leb (length b) 0) (nothing out_of_place) (headed header b))
+    pick (ltb 65536 (length b)) (nothing (number_of wrong_length)) (pick (leb (length b) 0) (nothing (number_of out_of_place)) (headed header b))
+
+-- what the code finds at a place, after n rows or events: no line after more of them than a number can tell
+abbrev pub counted_line : List ℕ → ℕ → ℕ → Option Line
+counted_line b at n = pick (ltb 65534 n) None (line_at b at)
 
 -- the line at a place, after n rows: none past the end, and none after more rows than a block can have
 abbrev pub line_after : List ℕ → ℕ → ℕ → BlockLine
@@ -53,7 +58,7 @@ line_after b at n =
 -- the line after a header, a row or a comment that was met; none after anything else
 unfoldable pub next_line : List ℕ → BlockLine → BlockLine
 next_line b x =
-    pick (ltb 65536 (length b)) (nothing wrong_length)
+    pick (ltb 65536 (length b)) (nothing (number_of wrong_length))
     (pick (ltb x.kind header_line) (nothing no_line)
     (pick (ltb comment_line x.kind) (nothing no_line) (line_after b x.next x.number)))
 

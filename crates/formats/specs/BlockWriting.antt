@@ -1,17 +1,14 @@
 -- A block of rows, as it is written. Document 01, "The block": header and lines are laid into successive parts of the caller's
 -- buffer, a newline after each, each from a given place and answering the place after it; other bytes stay.
-use Rattle.std.specs.Prelude.{◌≡◌, ℕ, ◌+◌, ◌-◌, ◌*◌, ◌≤◌, List, [], ◌∷◌, ◌++◌, length, take, drop}
+use Rattle.std.specs.Prelude.{◌≡◌, ℕ, ◌+◌, ◌-◌, ◌*◌, ◌≤◌, List, [], ◌∷◌, ◌++◌, length, take, drop, Ok, Err}
 use Rattle.columns.specs.Answer.{Answer, ok, refusal}
 use Rattle.columns.specs.Column.{Rec, widths}
 use Rattle.columns.specs.Table.{placed}
 use Rattle.columns.specs.Writing.{in_place}
 use Rattle.formats.specs.Lines.{newline, lines_of}
-use Rattle.formats.specs.Record.{reply_of}
+use Rattle.formats.specs.Record.{Reply, reply_of}
 use Rattle.formats.specs.Row.{RowFormat, read_row, read_row_record, write_row_from}
-use Rattle.formats.specs.Block.{BlockFormat, read_block}
-use Rattle.formats.specs.declared.Reply.{Reply}
-use Rattle.formats.specs.declared.Reply.TheVariants as R
-use Rattle.formats.specs.declared.block.Block.TheVariants as B
+use Rattle.formats.specs.Block.{BlockFormat, read_as, read_block}
 
 -- a written line with its newline
 abbrev pub ended : Answer (List ℕ) → Answer (List ℕ)
@@ -35,8 +32,8 @@ record_call F from at size = ended (write_row_from F from (room_from at size))
 
 -- the reply to what was written from a place on: the place after it, or the refusal
 abbrev pub from_place : ℕ → Reply → Reply
-from_place at (R.Done n) = R.Done (at + n)
-from_place at (R.Refused n k) = R.Refused n k
+from_place at (Ok n) = Ok (at + n)
+from_place at (Err e) = Err e
 
 -- the lent bytes after a call from a place: what was written there, or nothing changed
 abbrev pub laid_from : ℕ → Answer (List ℕ) → List ℕ → List ℕ
@@ -55,12 +52,12 @@ pub record RepliedFrom (at : ℕ) (a : Answer (List ℕ)) (r : Reply) (from to :
 -- records' bytes, the first place, the output before; the last place, the output after
 pub data RecordCalls (form : List ℕ → RowFormat) : List (List ℕ) → ℕ → List ℕ → ℕ → List ℕ → Type 0 where
   no_calls : {at : ℕ} {out : List ℕ} → RecordCalls form [] at out at out
-  call : {r : List ℕ} {rs : List (List ℕ)} {at next end : ℕ} {out mid to : List ℕ} → RepliedFrom at (record_call (form r) r at (length out)) (R.Done next) out mid → RecordCalls form rs next mid end to → RecordCalls form (r ∷ rs) at out end to
+  call : {r : List ℕ} {rs : List (List ℕ)} {at next end : ℕ} {out mid to : List ℕ} → RepliedFrom at (record_call (form r) r at (length out)) (Ok next) out mid → RecordCalls form rs next mid end to → RecordCalls form (r ∷ rs) at out end to
 
 pub record BlockCalls (F : BlockFormat) (rs : List (List ℕ)) (at : ℕ) (out : List ℕ) (end : ℕ) (to : List ℕ) : Type 0 where
   pub next : ℕ
   pub headed : List ℕ
-  pub header : RepliedFrom at (header_call F.header at (length out)) (R.Done next) out headed
+  pub header : RepliedFrom at (header_call F.header at (length out)) (Ok next) out headed
   pub records : RecordCalls (λ r. F.row) rs next headed end to
 
 -- the bytes from the first place to the last
@@ -85,4 +82,4 @@ pub record WrittenBlock (F : BlockFormat) (rs : List (List ℕ)) (at : ℕ) (out
   pub lines : lines_of (written at end to) ≡ F.header ∷ rows
   pub records : ReadBack (λ r. F.row) rs rows
   -- the count of rows is the number of records, there are no comments, and all bytes are used
-  pub block : end - at ≤ 65536 → read_block F (written at end to) ≡ B.Read (length rs) 0 (end - at)
+  pub block : end - at ≤ 65536 → read_block F (written at end to) ≡ read_as (length rs) 0 (end - at)

@@ -3,7 +3,8 @@
 use Rattle.std.specs.Prelude.{ℕ, [], ◌∷◌}
 use Rattle.formats.specs.Row.{RowFormat}
 use Rattle.formats.specs.Format.{card_i, card_l, card_e, card_m, card_p, card_a, card_r}
-use Rattle.formats.specs.Lettered.{LineKind, at_start, Lettered}
+use Rattle.formats.specs.declared.lettered.LineKind.{LineKind}
+use Rattle.formats.specs.Lettered.{at_start, Lettered}
 
 -- all cards have one rank: the I card may follow what stands before the first line, the others only a card
 abbrev pub card_kind : ℕ → RowFormat → ℕ → LineKind

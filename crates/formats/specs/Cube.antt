@@ -1,7 +1,7 @@
 -- CUBE lines: E, DE and LI messages, as they are read and written. Document 01, "The E line", "The DE line"; document 02,
 -- "Take the links".
-use Rattle.std.specs.Prelude.{ℕ, ◌+◌, ◌≡◌, List, [], ◌∷◌, ◌++◌, Bool, true, ◌&&◌, ℤ, length, take, drop, get_or, eqb, ltb}
-use Rattle.columns.specs.Answer.{pick, Answer, ok, refusal, unless, differs, wrong_length, barred_byte, bad_form}
+use Rattle.std.specs.Prelude.{ℕ, ◌+◌, ◌≡◌, List, [], ◌∷◌, ◌++◌, Bool, true, ◌&&◌, ℤ, length, take, drop, get_or, eqb, ltb, Result, Ok, Err}
+use Rattle.columns.specs.Answer.{pick, Answer, ok, refusal, refusal_at, unless, differs, wrong_length, barred_byte, bad_form}
 use Rattle.columns.specs.Bytes.{barred}
 use Rattle.columns.specs.Column.{Slot, Rec, Col, integer, text, as_held, not_negative, calendar_day, required, optional, no_brackets, any_text}
 use Rattle.columns.specs.Reading.{read_columns, read_part, nothing}
@@ -10,14 +10,17 @@ use Rattle.columns.specs.Table.{flags_of, values_of, over}
 use Rattle.formats.specs.Ranges.{year_range, month_range, hour_range, minute_range, second_range, latitude_range, longitude_range}
 use Rattle.formats.specs.Check.{check_character}
 use Rattle.formats.specs.Link.{type_of, address_of, text_of, formed}
-use Rattle.formats.specs.declared.cube.Read.{Read}
-use Rattle.formats.specs.declared.cube.Read.TheVariants as R
+use Rattle.columns.specs.declared.Reason.{Reason}
+use Rattle.columns.specs.declared.Reason.TheVariants as Why
+use Rattle.columns.specs.declared.Refusal.{Refusal}
+use Rattle.formats.specs.declared.cube.Parts.{Parts}
+use Rattle.formats.specs.declared.cube.Parts.TheVariants as P
 
-abbrev pub wrong_type : ℕ
-wrong_type = 3
+abbrev pub wrong_type : Reason
+wrong_type = Why.Type
 
-abbrev pub wrong_check : ℕ
-wrong_check = 9
+abbrev pub wrong_check : Reason
+wrong_check = Why.Check
 
 -- the columns of an E line after its type, 3 to 79
 abbrev pub event_columns : List Col
@@ -140,7 +143,7 @@ read_line l =
     (pick (is_type 69 32 l) (read_event l)
     (pick (is_type 68 69 l) (read_delete l) (pick (is_type 76 73 l) (read_link l) (refusal wrong_type 1))))
 
--- ---- what the code answers for a line: the kind of its record and the lengths of its parts, or the refusal
+-- ---- what the code answers for a line: the lengths of its parts, or the refusal
 
 -- the kinds of record, as docs/RECORDS.md numbers them
 abbrev pub event_kind : ℕ
@@ -152,11 +155,11 @@ delete_kind = 2
 abbrev pub link_kind : ℕ
 link_kind = 4
 
-abbrev pub line_read : Answer Message → Read
-line_read (ok (event ns t)) = R.There event_kind 0 0 0
-line_read (ok (delete names t)) = R.There delete_kind 0 0 (length t)
-line_read (ok (link names ty ad tx)) = R.There link_kind (length ty) (length ad) (length tx)
-line_read (refusal n k) = R.Refused n k
+abbrev pub line_read : Answer Message → Result Parts Refusal
+line_read (ok (event ns t)) = Ok P.Event
+line_read (ok (delete names t)) = Ok (P.Delete (length t))
+line_read (ok (link names ty ad tx)) = Ok (P.Link (length ty) (length ad) (length tx))
+line_read (refusal n k) = Err (refusal_at n k)
 
 -- what stands in the arrays lent for an event's record: where a column is refused, those before it
 abbrev pub event_part : List ℕ → Rec
@@ -169,7 +172,7 @@ abbrev pub line_part : List ℕ → Rec
 line_part l = pick (is_type 69 32 l) (event_part l) nothing
 
 -- the outcome, and the lent arrays: the numbers and the text over their first places
-pub record LineRead (a : Answer Message) (part : Rec) (r : Read) (f f₁ : List ℕ) (v v₁ : List ℤ) (t t₁ : List ℕ) : Type 0 where
+pub record LineRead (a : Answer Message) (part : Rec) (r : Result Parts Refusal) (f f₁ : List ℕ) (v v₁ : List ℤ) (t t₁ : List ℕ) : Type 0 where
   pub answer : r ≡ line_read a
   pub flags : f₁ ≡ over (flags_of part.numbers) f
   pub values : v₁ ≡ over (values_of part.numbers) v

@@ -1,6 +1,6 @@
 -- Lines by their first letter: a list of kinds of lines, and which may come where. Document 01, "The block", its last paragraph, where
 -- a first letter names the kind of line; the Calnet cards of document 02, Wish 5, are the first such lines.
-use Rattle.std.specs.Prelude.{ℕ, ◌+◌, Bool, not, List, [], ◌∷◌, drop, get_or, eqb, leb}
+use Rattle.std.specs.Prelude.{ℕ, Bool, not, List, [], ◌∷◌, get_or, eqb, leb}
 use Rattle.columns.specs.Answer.{pick, Answer, ok, refusal, unless, wrong_length}
 use Rattle.columns.specs.Column.{Rec, Col}
 use Rattle.columns.specs.Writing.{in_place}
@@ -8,16 +8,10 @@ use Rattle.formats.specs.Cube.{wrong_type}
 use Rattle.formats.specs.Row.{RowFormat, well_made, read_filled, read_row_into, write_row_from}
 use Rattle.formats.specs.Block.{out_of_place}
 use Rattle.formats.specs.Format.{format_of}
+use Rattle.formats.specs.declared.lettered.LineKind.{LineKind}
 
--- ---- kinds
-
--- a kind of line: its letter; the number of its record's kind, by which its columns are found; its rank, and the highest rank of a
+-- ---- kinds: each has a letter; the number of its record's kind, by which its columns are found; its rank, and the highest rank of a
 -- line that it may follow
-pub record LineKind : Type 0 where
-  pub letter : ℕ
-  pub kind : ℕ
-  pub rank : ℕ
-  pub after : ℕ
 
 -- what stands before the first line: above every rank, so that only a kind that may follow it begins
 abbrev pub at_start : ℕ
@@ -85,10 +79,7 @@ record_format L r = format_for (kind_in L r)
 unfoldable pub write_lettered : Lettered → List ℕ → ℕ → Answer (List ℕ)
 write_lettered L r room = write_row_from (record_format L r) r room
 
--- ---- helping definition about the code: the kinds that its tables stand for, their records' kinds numbered from `first` on
+-- ---- helping definition about the code: the kinds that its opener and its others are
 
-unfoldable pub kinds_at : List ℕ → List ℕ → List ℕ → ℕ → List LineKind
-kinds_at [] ranks afters first = []
-kinds_at (b ∷ letters) ranks afters first =
-    record { letter = b; kind = first; rank = get_or ranks 0 0; after = get_or afters 0 0 }
-    ∷ kinds_at letters (drop 1 ranks) (drop 1 afters) (first + 1)
+abbrev pub lettered_of : LineKind → List LineKind → Lettered
+lettered_of opener others = record { opener = opener; others = others }

@@ -1,3 +1,4 @@
+pub mod Refused
 pub mod Ranges
 pub mod Check
 pub mod Cube

@@ -1,13 +1,10 @@
 -- The bytes in which a record crosses to a C caller: the byte layout that document 01's opening asks for. docs/RECORDS.md
-use Rattle.std.specs.Prelude.{◌≡◌, ℕ, zero, suc, ◌-◌, List, [], ◌∷◌, ◌++◌, ℤ, pos, negsuc, length, take, drop, get_or, ltb}
-use Rattle.columns.specs.Answer.{pick, Answer, ok, refusal}
+use Rattle.std.specs.Prelude.{◌≡◌, ℕ, zero, suc, ◌-◌, List, [], ◌∷◌, ◌++◌, ℤ, pos, negsuc, length, take, drop, get_or, ltb, Result, Ok, Err}
+use Rattle.columns.specs.Answer.{pick, Answer, ok, refusal, refusal_at}
 use Rattle.columns.specs.Word.{word_bytes, word_of}
 use Rattle.columns.specs.Column.{Slot}
+use Rattle.columns.specs.declared.Refusal.{Refusal}
 use Rattle.columns.specs.Table.{slot_of, laid}
-use Rattle.columns.specs.declared.Outcome.{Outcome}
-use Rattle.formats.specs.declared.Reply.{Reply}
-use Rattle.columns.specs.declared.Outcome.TheVariants as O
-use Rattle.formats.specs.declared.Reply.TheVariants as R
 
 -- ---- a number with a sign as 64 bits: -1 is all ones
 
@@ -45,14 +42,12 @@ slots_in (suc n) fs s =
 
 -- ---- what a call answers: the number of bytes written, or a refusal
 
-abbrev pub reply_of : Answer (List ℕ) → Reply
-reply_of (ok ys) = R.Done (length ys)
-reply_of (refusal n k) = R.Refused n k
+abbrev pub Reply : Type 0
+Reply = Result ℕ Refusal
 
--- the reply to a line of some bytes that was written or refused
-abbrev pub replied : Outcome → ℕ → Reply
-replied O.Done len = R.Done len
-replied (O.Refused n k) len = R.Refused n k
+abbrev pub reply_of : Answer (List ℕ) → Reply
+reply_of (ok ys) = Ok (length ys)
+reply_of (refusal n k) = Err (refusal_at n k)
 
 -- the reply, and the lent bytes: what was written over the first of them, or nothing changed
 pub record Replied (a : Answer (List ℕ)) (r : Reply) (from to : List ℕ) : Type 0 where

@@ -1,12 +1,12 @@
 -- A row of a file format, as it is read and written, and the bytes of its record, over its list of columns. Document 01, "The
 -- phase line", whose size, blank-filling, full written width and order the formats added later follow; docs/RECORDS.md.
-use Rattle.std.specs.Prelude.{ℕ, ◌+◌, ◌*◌, List, [], ◌&&◌, length, take, drop, replicate, ltb}
-use Rattle.columns.specs.Answer.{pick, Answer, ok, refusal, unless, differs, wrong_length, barred_byte, bad_form}
+use Rattle.std.specs.Prelude.{ℕ, ◌+◌, ◌*◌, ◌≤◌, ◌<◌, ◌≡◌, Ok, Err, List, [], ◌&&◌, length, take, drop, replicate, ltb}
+use Rattle.columns.specs.Answer.{pick, Answer, ok, refusal, refusal_at, unless, differs, wrong_length, barred_byte, bad_form}
 use Rattle.columns.specs.Bytes.{barred, same_bytes}
 use Rattle.columns.specs.Column.{Rec, Col, widths, all_slots, all_texts}
 use Rattle.columns.specs.Reading.{nothing, read_columns, read_part}
 use Rattle.columns.specs.Writing.{in_place, write_line}
-use Rattle.columns.specs.Table.{flags_of, values_of, over}
+use Rattle.columns.specs.Table.{Outcome, flags_of, values_of, over}
 use Rattle.columns.specs.Row.{whole, row_size}
 use Rattle.formats.specs.Record.{packed, slots_in}
 
@@ -30,6 +30,12 @@ abbrev pub well_made : List Col → List ℕ → Answer Rec → Answer Rec
 well_made cs l rest =
     unless (ltb (widths cs) (length l)) wrong_length 0
     (unless (differs (lowest_barred_byte l) 0) barred_byte (lowest_barred_byte l) rest)
+
+-- what that comes to for a line
+pub data Made (cs : List Col) (l : List ℕ) : Outcome → Type 0 where
+  too_long : widths cs < length l → Made cs l (Err (refusal_at wrong_length 0))
+  has_barred : length l ≤ widths cs → (lowest_barred_byte l ≡ 0 → ⊥) → Made cs l (Err (refusal_at barred_byte (lowest_barred_byte l)))
+  well : length l ≤ widths cs → lowest_barred_byte l ≡ 0 → Made cs l (Ok tt)
 
 -- the columns of a line, left to right, 4 to 8
 abbrev pub read_filled : List Col → List ℕ → Answer Rec

@@ -1,14 +1,15 @@
 -- A run of lines by their first letter, as it is read: whether each line is accepted, and how many lines there are of each kind.
 -- Document 01, "The block", its last paragraph; document 02, Wish 5.
-use Rattle.std.specs.Prelude.{◌≡◌, ℕ, suc, ◌+◌, ◌*◌, List, [], ◌∷◌, length, get_or, eqb, ltb}
+use Rattle.std.specs.Prelude.{◌≡◌, ℕ, suc, ◌+◌, ◌*◌, List, [], ◌∷◌, length, get_or, eqb, ltb, Result, Ok, Err}
 use Rattle.columns.specs.Answer.{pick, Answer, ok, refusal, wrong_length, too_short}
 use Rattle.columns.specs.Column.{Rec}
 use Rattle.columns.specs.Table.{over}
 use Rattle.formats.specs.Lines.{lines_of}
 use Rattle.formats.specs.Record.{words_by}
-use Rattle.formats.specs.Lettered.{LineKind, at_start, Lettered, kinds_of, leading, read_lettered}
-use Rattle.formats.specs.declared.run.Run.{Run}
-use Rattle.formats.specs.declared.run.Run.TheVariants as R
+use Rattle.formats.specs.declared.lettered.LineKind.{LineKind}
+use Rattle.formats.specs.Lettered.{at_start, Lettered, kinds_of, leading, read_lettered}
+use Rattle.formats.specs.Refused.{refused_at}
+use Rattle.formats.specs.declared.LineRefusal.{LineRefusal}
 
 -- ---- the counts, over the lines alone
 
@@ -26,11 +27,14 @@ counts_of (k ∷ ks) ls = begun k.letter ls ∷ counts_of ks ls
 abbrev pub events_of : Lettered → List (List ℕ) → ℕ
 events_of L ls = begun L.opener.letter ls
 
--- ---- the answer
+-- ---- the answer: the number of events, or the refusal of a line
+
+abbrev pub Run : Type 0
+Run = Result ℕ LineRefusal
 
 -- line n: its refusal, or what is answered with the lines after it
 abbrev pub on_line : ℕ → Answer Rec → Run → Run
-on_line n (refusal number column) rest = R.Refused number column n
+on_line n (refusal number column) rest = refused_at number column n
 on_line n (ok m) rest = rest
 
 -- the rank of a line that was accepted
@@ -51,9 +55,9 @@ counts_size L = 2 * length (kinds_of L)
 -- 11 where the place for the counts is short; 1 at line 0 over 65,536 bytes; the first refused line; else the number of events
 unfoldable pub read_run : Lettered → List ℕ → ℕ → Run
 read_run L b room =
-    pick (ltb room (counts_size L)) (R.Refused too_short 0 0)
-    (pick (ltb 65536 (length b)) (R.Refused wrong_length 0 0)
-    (first_refused (kinds_of L) 1 at_start (lines_of b) (R.Read (events_of L (lines_of b)))))
+    pick (ltb room (counts_size L)) (refused_at too_short 0 0)
+    (pick (ltb 65536 (length b)) (refused_at wrong_length 0 0)
+    (first_refused (kinds_of L) 1 at_start (lines_of b) (Ok (events_of L (lines_of b)))))
 
 -- ---- the lent bytes
 
@@ -63,8 +67,8 @@ count_bytes ns = words_by 2 (λ n. n) ns
 
 -- the counts over the first of them, or nothing changed
 abbrev pub counts_after : Lettered → List ℕ → Run → List ℕ → List ℕ
-counts_after L b (R.Read events) from = over (count_bytes (counts_of (kinds_of L) (lines_of b))) from
-counts_after L b (R.Refused number column line) from = from
+counts_after L b (Ok events) from = over (count_bytes (counts_of (kinds_of L) (lines_of b))) from
+counts_after L b (Err e) from = from
 
 pub record RunRead (L : Lettered) (b : List ℕ) (r : Run) (from to : List ℕ) : Type 0 where
   pub answer : r ≡ read_run L b (length from)

@@ -1,46 +1,27 @@
 -- What the code comes to at one line of a run. Helping definitions; what is answered for the run stands in Run.
-use Rattle.std.specs.Prelude.{◌≡◌, ℕ, ◌+◌, ◌≤◌, ◌<◌, List, length, get_or}
-use Rattle.columns.specs.Answer.{Answer, ok, refusal}
+use Rattle.std.specs.Prelude.{◌≡◌, ℕ, ◌<◌, List, length, get_or, Result, Ok, Err}
+use Rattle.columns.specs.Answer.{Answer, ok, refusal, refusal_at}
 use Rattle.columns.specs.Column.{Rec}
-use Rattle.formats.specs.Lettered.{LineKind, at_start, leading, read_lettered, kinds_at}
-use Rattle.formats.specs.Run.{begun, first_refused}
-use Rattle.formats.specs.declared.lettered.Lead.{Lead}
-use Rattle.formats.specs.declared.lettered.Lead.TheVariants as D
-use Rattle.formats.specs.declared.run.Run.{Run}
-use Rattle.formats.specs.declared.run.Run.TheVariants as R
-use Rattle.formats.specs.declared.run.Step.{Step}
-use Rattle.formats.specs.declared.run.Step.TheVariants as S
+use Rattle.formats.specs.Lettered.{at_start, leading, read_lettered}
+use Rattle.formats.specs.Run.{Run, begun, first_refused}
+use Rattle.columns.specs.declared.Refusal.{Refusal}
+use Rattle.formats.specs.declared.lettered.LineKind.{LineKind}
 
--- the code's tables have a rank and a highest rank before for each letter, and numbers of a byte for their records' kinds
-pub record Tables (letters ranks afters : List ℕ) (first : ℕ) : Type 0 where
-  pub kinds : first + length letters ≤ 256
-  pub ranked : length letters ≤ length ranks
-  pub followed : length letters ≤ length afters
+-- what stands at no place of a list of kinds
+abbrev pub no_kind : LineKind
+no_kind = record { letter = 0; kind = 0; rank = 0; after = 0 }
 
--- the kind of a letter at a place of the code's tables
-abbrev pub kind_at : List ℕ → List ℕ → ℕ → ℕ → ℕ → LineKind
-kind_at ranks afters first b i = record { letter = b; kind = first + i; rank = get_or ranks i 0; after = get_or afters i 0 }
+-- an answer about a kind, as the code has it
+abbrev pub as_kind : Answer LineKind → Result LineKind Refusal
+as_kind (ok k) = Ok k
+as_kind (refusal n c) = Err (refusal_at n c)
 
--- what the code finds of a line's first letter, as an answer
-abbrev pub lead_answer : List ℕ → List ℕ → ℕ → Lead → Answer LineKind
-lead_answer ranks afters first (D.Kind b i) = ok (kind_at ranks afters first b i)
-lead_answer ranks afters first (D.Refused n c) = refusal n c
+-- a line that was judged: its kind, or its refusal
+abbrev pub stepped_by : Answer Rec → Answer LineKind → Result LineKind Refusal
+stepped_by (ok m) k = as_kind k
+stepped_by (refusal n c) k = Err (refusal_at n c)
 
-abbrev pub Inside : List ℕ → Lead → Type 0
-Inside letters (D.Kind b i) = i < length letters
-Inside letters (D.Refused n c) = Unit {0}
-
-pub record Leads (letters l : List ℕ) (r : Lead) : Type 0 where
-  pub is : (ranks afters : List ℕ) (first : ℕ) → leading (kinds_at letters ranks afters first) l ≡ lead_answer ranks afters first r
-  pub inside : Inside letters r
-
--- a line that was judged: its letter and its kind's rank, or its refusal
-abbrev pub stepped_by : Answer Rec → Answer LineKind → Step
-stepped_by (ok m) (ok k) = S.Next k.letter k.rank
-stepped_by (ok m) (refusal n c) = S.Refused n c
-stepped_by (refusal n c) k = S.Refused n c
-
-abbrev pub step_of : List LineKind → ℕ → List ℕ → Step
+abbrev pub step_of : List LineKind → ℕ → List ℕ → Result LineKind Refusal
 step_of ks before l = stepped_by (read_lettered ks before l) (leading ks l)
 
 -- the lines of a run: the first refusal, or none, with 0 for the events; and how many lines begin with each byte, in a tally that was empty
@@ -49,9 +30,9 @@ pub record Empty (tally : List ℕ) : Type 0 where
   pub none : (b : ℕ) → get_or tally b 0 ≡ 0
 
 abbrev pub Tallied : List (List ℕ) → Run → List ℕ → Type 0
-Tallied ls (R.Read events) tally = (b : ℕ) → b < 256 → get_or tally b 0 ≡ begun b ls
-Tallied ls (R.Refused number column line) tally = Unit {0}
+Tallied ls (Ok events) tally = (b : ℕ) → b < 256 → get_or tally b 0 ≡ begun b ls
+Tallied ls (Err e) tally = Unit {0}
 
 pub record Judged (ks : List LineKind) (ls : List (List ℕ)) (r : Run) (to : List ℕ) : Type 0 where
-  pub answer : r ≡ first_refused ks 1 at_start ls (R.Read 0)
+  pub answer : r ≡ first_refused ks 1 at_start ls (Ok 0)
   pub tally : Tallied ls r to

@@ -1,10 +1,11 @@
 -- A run walked line by line, as a block is: each call is told what the call before it met. Document 02, Wish 5.
 use Rattle.std.specs.Prelude.{◌≡◌, ℕ, ◌+◌, ◌-◌, List, [], ◌∷◌, length, take, drop, get_or, eqb, leb, ltb}
-use Rattle.columns.specs.Answer.{pick, Answer, ok, refusal, is_ok, wrong_length}
+use Rattle.columns.specs.Answer.{pick, Answer, ok, refusal, is_ok, wrong_length, number_of}
 use Rattle.formats.specs.Lines.{line_end}
 use Rattle.formats.specs.BlockReader.{line_of, next_of}
 use Rattle.formats.specs.BlockWalk.{no_line, nothing}
-use Rattle.formats.specs.Lettered.{LineKind, Lettered, kinds_of, named, leading}
+use Rattle.formats.specs.declared.lettered.LineKind.{LineKind}
+use Rattle.formats.specs.Lettered.{Lettered, kinds_of, named, leading}
 use Rattle.formats.specs.declared.block_walk.BlockLine.{BlockLine}
 
 -- the number of the event of a line, after n events: a line that opens one has the next number
@@ -14,7 +15,7 @@ event_after L letter n = pick (eqb letter L.opener.letter) (n + 1) n
 -- a line told by its first letter: the letter as its kind, and the number of its event; or 1 where it is empty, 3 of another letter
 abbrev pub told_as : Lettered → Answer LineKind → ℕ → ℕ → ℕ → BlockLine
 told_as L (ok k) n e x = record { kind = k.letter; number = event_after L k.letter n; end = e; next = x }
-told_as L (refusal m c) n e x = nothing m
+told_as L (refusal m c) n e x = nothing (number_of m)
 
 -- the line at a place, after n events: none past the end, and none after more events than a number can tell
 abbrev pub told_at : Lettered → List ℕ → ℕ → ℕ → BlockLine
@@ -24,12 +25,12 @@ told_at L b at n =
 
 -- the first line: 1 in a run over 65,536 bytes
 unfoldable pub first_told : Lettered → List ℕ → BlockLine
-first_told L b = pick (ltb 65536 (length b)) (nothing wrong_length) (told_at L b 0 0)
+first_told L b = pick (ltb 65536 (length b)) (nothing (number_of wrong_length)) (told_at L b 0 0)
 
 -- the line after one that was met; none after anything else
 unfoldable pub next_told : Lettered → List ℕ → BlockLine → BlockLine
 next_told L b x =
-    pick (ltb 65536 (length b)) (nothing wrong_length)
+    pick (ltb 65536 (length b)) (nothing (number_of wrong_length))
     (pick (is_ok (named (kinds_of L) x.kind)) (told_at L b x.next x.number) (nothing no_line))
 
 -- ---- a whole walk

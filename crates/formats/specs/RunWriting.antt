@@ -1,12 +1,11 @@
 -- A run of lines by their first letter, as it is written: record by record, each through the part of the caller's buffer that starts
 -- after the line before it, as in the block. Document 01, "The block"; document 02, Wish 5.
-use Rattle.std.specs.Prelude.{◌≡◌, ℕ, ◌-◌, ◌≤◌, Bool, true, ◌&&◌, List, [], ◌∷◌, length, take, drop, get_or, T, leb}
+use Rattle.std.specs.Prelude.{Ok, ◌≡◌, ℕ, ◌-◌, ◌≤◌, Bool, true, ◌&&◌, List, [], ◌∷◌, length, take, drop, get_or, T, leb}
 use Rattle.columns.specs.Answer.{Answer}
 use Rattle.formats.specs.Lines.{lines_of}
 use Rattle.formats.specs.BlockWriting.{record_call, ReadBack, written}
 use Rattle.formats.specs.Lettered.{at_start, Lettered, kind_in, record_format}
 use Rattle.formats.specs.Run.{events_of, counts_size, read_run}
-use Rattle.formats.specs.declared.run.Run.TheVariants as R
 
 -- a call from a place of an output of a size
 unfoldable pub lettered_call : Lettered → List ℕ → ℕ → ℕ → Answer (List ℕ)
@@ -39,4 +38,4 @@ pub record WrittenRun (L : Lettered) (rs : List (List ℕ)) (at : ℕ) (out : Li
   pub letters : first_bytes rows ≡ letters_in L rs
   pub records : ReadBack (record_format L) rs rows
   -- read as a run, it is accepted, with as many events as there are records that open one
-  pub run : T (is_in_order L at_start rs) → end - at ≤ 65536 → (room : ℕ) → counts_size L ≤ room → read_run L (written at end to) room ≡ R.Read (events_of L rows)
+  pub run : T (is_in_order L at_start rs) → end - at ≤ 65536 → (room : ℕ) → counts_size L ≤ room → read_run L (written at end to) room ≡ Ok (events_of L rows)

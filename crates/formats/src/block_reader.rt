@@ -1,8 +1,16 @@
 // The lines of a block, from a reader that holds the lent block and its place in it.
-ghost use Rattle.std.specs.Prelude.{◌≡◌};
+ghost use Rattle.std.specs.Prelude.{◌≡◌, ◌≤◌, length, IfSome};
 ghost use Rattle.formats.specs.BlockReader.{line_at};
 
 use super::lines::line_end;
+
+// A line: its start, its end, and the place after its newline.
+#[derive(Clone, Copy)]
+pub struct Line {
+    pub start: usize,
+    pub end: usize,
+    pub next: usize,
+}
 
 // A reader of a lent block, at a place in it.
 #[derive(Clone, Copy)]
@@ -11,52 +19,54 @@ pub struct BlockReader<'a> {
     pub at: usize,
 }
 
-// A line: its start, its end, and the place after its newline.
-#[derive(Clone, Copy)]
-pub enum Line {
-    Found(usize, usize, usize),
-    End,
-}
-
-// The line that starts at a place of a block.
-pub fn line_at(s: &[u8], at: usize) -> Line
-    ensures { result ≡ line_at s.now at }
+// The line that starts at a place of a block; none at its end.
+pub fn line_at(s: &[u8], at: usize) -> Option<Line>
+    ensures found { result ≡ line_at s.now at }
+    ensures within { IfSome result (λ line. (line.start ≤ line.end) × (line.end ≤ length s.now)) }
 {
     if s.len() <= at {
-        return Line::End;
+        return None;
     }
-    let e = line_end(s, at);
-    if e < s.len() {
-        return Line::Found(at, e, e + 1);
+    let end = line_end(s, at);
+    let next = if end < s.len() { end + 1 } else { end };
+    Some(Line {
+        start: at,
+        end,
+        next,
+    })
+}
+
+impl<'a> BlockReader<'a> {
+    // A reader at the start of a block.
+    pub fn new(block: &'a [u8]) -> BlockReader<'a>
+        ensures block { result.block ≡ block.entry }
+        ensures at { result.at ≡ 0 }
+    {
+        BlockReader { block, at: 0 }
     }
-    Line::Found(at, e, e)
-}
 
-// A reader at the start of a block.
-pub fn new<'a>(block: &'a [u8]) -> BlockReader<'a>
-    ensures { (result.block ≡ block.entry) × (result.at ≡ 0) }
-{
-    BlockReader { block, at: 0 }
-}
+    // The line that starts at the reader's place.
+    pub fn next_line(self) -> Option<Line>
+        ensures found { result ≡ line_at self.entry.block.now self.entry.at }
+        ensures within { IfSome result (λ line. (line.start ≤ line.end) × (line.end ≤ length self.entry.block.now)) }
+    {
+        line_at(self.block, self.at)
+    }
 
-// The line that starts at a reader's place.
-pub fn next_line<'a>(r: BlockReader<'a>) -> Line
-    ensures { result ≡ line_at r.entry.block.now r.entry.at }
-{
-    line_at(r.block, r.at)
-}
-
-// A reader of the same block, at another place.
-pub fn moved<'a>(r: BlockReader<'a>, at: usize) -> BlockReader<'a>
-    ensures { (result.block ≡ r.entry.block) × (result.at ≡ at) }
-{
-    BlockReader { block: r.block, at }
+    // A reader of the same block, at another place.
+    pub fn moved(self, at: usize) -> BlockReader<'a>
+        ensures block { result.block ≡ self.entry.block }
+        ensures at { result.at ≡ at }
+    {
+        BlockReader { at, ..self }
+    }
 }
 
 // The line that starts at a place, with plain parameters, for every other caller: a reader is made, moved to the place and asked
 // for its line.
-pub fn line_from(s: &[u8], at: usize) -> Line
-    ensures { result ≡ line_at s.now at }
+pub fn line_from(s: &[u8], at: usize) -> Option<Line>
+    ensures found { result ≡ line_at s.now at }
+    ensures within { IfSome result (λ line. (line.start ≤ line.end) × (line.end ≤ length s.now)) }
 {
-    next_line(moved(new(s), at))
+    BlockReader::new(s).moved(at).next_line()
 }

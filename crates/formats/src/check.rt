@@ -26,16 +26,13 @@ pub fn with_three(sum: u16, s: &[u8], at: usize) -> u16
     with_byte(two, s[at + 2])
 }
 
-// The sum with the bytes from `from` on.
-fn with_rest(s: &[u8], from: usize, before: u16) -> u16
-    requires { from ≤ length s.now }
-    ensures { result ≡ check_sum before (drop from s.now) }
+// The sum with all bytes.
+fn with_all(before: u16, s: &[u8]) -> u16
+    ensures { result ≡ check_sum before s.now }
 {
     let mut sum = before;
-    let mut i = from;
-    while i < s.len() {
-        sum = with_byte(sum, s[i]);
-        i += 1;
+    for b in s {
+        sum = with_byte(sum, *b);
     }
     sum
 }
@@ -48,9 +45,7 @@ fn with_eight(sum: u16, part: &[u8]) -> u16
     ensures { result ≡ check_sum sum part.now }
 {
     let mut ahead: u32 = 0;
-    let mut k: usize = 8;
-    while 0 < k {
-        k -= 1;
+    for k in (0..8).rev() {
         ahead = 2 * (part[k] as u32 + ahead);
     }
     let all = sum as u32 + ahead;
@@ -58,7 +53,7 @@ fn with_eight(sum: u16, part: &[u8]) -> u16
     if sum as u32 + 256 * ones < 65791 {
         return (((all >> 8) + (all << 8)) & 65535) as u16;
     }
-    with_rest(part, 0, sum)
+    with_all(sum, part)
 }
 
 // A sum modulo 91. 4096 is 45 * 91 + 1: so the high four bits are added to the low twelve, and a 91st is 45 of 4096 parts.
@@ -76,7 +71,7 @@ pub fn check_from(s: &[u8], from: usize, before: u16) -> u8
     requires { (from ≤ length s.now) × (check_sum before (drop from s.now) ≡ check_sum 0 s.now) }
     ensures { result ≡ check_character s.now }
 {
-    36 + modulo_91(with_rest(s, from, before))
+    36 + modulo_91(with_all(before, &s[from..]))
 }
 
 // The check character of all bytes.
@@ -84,10 +79,11 @@ pub fn check_character(s: &[u8]) -> u8
     ensures { result ≡ check_character s.now }
 {
     let mut sum: u16 = 0;
-    let mut i: usize = 0;
-    while 8 <= s.len() - i {
-        sum = with_eight(sum, &s[i..i + 8]);
-        i += 8;
+    let mut rest = s;
+    // by slices: a pair of them, as `split_first_chunk` has it, would be copied by a call (tests/divide)
+    while 8 <= rest.len() {
+        sum = with_eight(sum, &rest[..8]);
+        rest = &rest[8..];
     }
-    check_from(s, i, sum)
+    36 + modulo_91(with_all(sum, rest))
 }

@@ -7,13 +7,13 @@ ghost use Rattle.formats.specs.Cube.{read_event, event_part, read_text, read_del
 use super::check::check_character;
 use super::link::read_link;
 use super::ranges::{EVENT_RANGES, HOUR, LATITUDE, LONGITUDE, MINUTE, MONTH, SECOND, YEAR};
-use columns::Outcome;
 use columns::bytes::{copy, copy_at, first_barred};
 use columns::column::{
-    ANY_TEXT, AS_HELD, DAY, INTEGER, NO_BRACKETS, NOT_NEGATIVE, REQUIRED, TEXT, WIDTH,
+    ANY_TEXT, AS_HELD, DAY, INTEGER, Layout, NO_BRACKETS, NOT_NEGATIVE, REQUIRED, TEXT, WIDTH,
 };
 use columns::reader::read_columns;
 use columns::writer::put_columns;
+use columns::{Reason, Refusal};
 
 // The table of specs/Cube.antt, from column 3 on.
 pub const EVENT_ROWS: [u32; 24] = [
@@ -48,6 +48,12 @@ pub const EVENT_LETTERS: [u8; 1] = [0];
 
 pub const EVENT_COLUMNS: usize = 24;
 
+const EVENT_TABLE: Layout<'static> = Layout {
+    rows: &EVENT_ROWS,
+    ranges: &EVENT_RANGES,
+    letters: &EVENT_LETTERS,
+};
+
 // The kinds of record, as docs/RECORDS.md numbers them.
 pub const EVENT: u8 = 1;
 
@@ -55,12 +61,18 @@ pub const DELETE: u8 = 2;
 
 pub const LINK: u8 = 4;
 
-// What reading a line gives: a record that is there, with its kind and the lengths of a link's type, address and text (of a
-// delete only its free text), or the number and column of a refusal.
-#[derive(Clone, Copy)]
-pub enum Read {
-    There(u8, usize, usize, usize),
-    Refused(u8, usize),
+// The parts of a line that was read: an event's, or the lengths of a delete's free text, or of a link's type, address and text.
+#[derive(Clone, Copy, PartialEq, Eq, Debug)]
+pub enum Parts {
+    Event,
+    Delete {
+        text: usize,
+    },
+    Link {
+        kind: usize,
+        address: usize,
+        text: usize,
+    },
 }
 
 // A line whose type is `E `: its numbers with their flags, and its text (identifier 8, source 2, version 1, magnitude letter,
@@ -70,64 +82,45 @@ fn read_event(
     flags: &mut [u8; 19],
     values: &mut [i64; 19],
     text: &mut [u8; 96],
-) -> Read
+) -> Result<Parts, Refusal>
     ensures { LineRead (read_event line.now) (event_part line.now) result flags.old flags.new values.old values.new text.old text.new }
 {
     if line.len() != 80 {
-        return Read::Refused(super::LENGTH, 0);
+        return Err(Reason::Length.at(0));
     }
-    let barred = first_barred(&line[0..79], 1, 3, 13);
-    if barred != 0 {
-        return Read::Refused(columns::BARRED, barred);
+    if let Some(column) = first_barred(&line[0..79], 1, 3, 13) {
+        return Err(Reason::Barred.at(column));
     }
     if line[79] != check_character(&line[0..79]) {
-        return Read::Refused(super::CHECK, 80);
+        return Err(Reason::Check.at(80));
     }
-    let outcome = read_columns(
-        line,
-        2,
-        &EVENT_ROWS,
-        0,
-        EVENT_COLUMNS,
-        &EVENT_RANGES,
-        &EVENT_LETTERS,
-        flags,
-        values,
-        text,
-    );
-    match outcome {
-        Outcome::Refused(number, column) => Read::Refused(number, column),
-        Outcome::Done => Read::There(EVENT, 0, 0, 0),
-    }
+    read_columns(line, 2, &EVENT_TABLE, flags, values, text)?;
+    Ok(Parts::Event)
 }
 
 // How a DE or an LI line begins: `low` to `high` bytes, none of them barred, brackets in columns 3 to `last` among them.
-pub fn judge_text(line: &[u8], low: usize, high: usize, last: usize) -> Outcome
+pub fn judge_text(line: &[u8], low: usize, high: usize, last: usize) -> Result<(), Refusal>
     requires { high ≤ 255 }
     ensures { result ≡ outcome_of (read_text low high last ok line.now) }
 {
     let len = line.len();
-    if len < low {
-        return Outcome::Refused(super::LENGTH, 0);
+    if len < low || high < len {
+        return Err(Reason::Length.at(0));
     }
-    if high < len {
-        return Outcome::Refused(super::LENGTH, 0);
+    if let Some(column) = first_barred(line, 1, 3, last) {
+        return Err(Reason::Barred.at(column));
     }
-    let barred = first_barred(line, 1, 3, last);
-    if barred != 0 {
-        return Outcome::Refused(columns::BARRED, barred);
-    }
-    Outcome::Done
+    Ok(())
 }
 
 // A line whose type is `DE`; its record is the line after its type.
-fn read_delete(line: &[u8]) -> Read
+fn read_delete(line: &[u8]) -> Result<Parts, Refusal>
     ensures { result ≡ line_read (read_delete line.now) }
 {
-    match judge_text(line, 13, 80, 13) {
-        Outcome::Refused(number, column) => Read::Refused(number, column),
-        Outcome::Done => Read::There(DELETE, 0, 0, line.len() - 13),
-    }
+    judge_text(line, 13, 80, 13)?;
+    Ok(Parts::Delete {
+        text: line.len() - 13,
+    })
 }
 
 // Whether a line begins with two bytes.
@@ -135,10 +128,7 @@ fn is_type(line: &[u8], a: u8, b: u8) -> bool
     requires { 2 ≤ length line.now }
     ensures { result ≡ is_type a b line.now }
 {
-    if line[0] != a {
-        return false;
-    }
-    line[1] == b
+    line[0] == a && line[1] == b
 }
 
 // A CUBE line of any kind. The numbers and the text of an event come into the lent arrays: where a column is refused, those
@@ -148,53 +138,42 @@ pub fn read_line(
     flags: &mut [u8; 19],
     values: &mut [i64; 19],
     text: &mut [u8; 96],
-) -> Read
+) -> Result<Parts, Refusal>
     ensures { LineRead (read_line line.now) (line_part line.now) result flags.old flags.new values.old values.new text.old text.new }
 {
     if line.len() < 2 {
-        return Read::Refused(super::LENGTH, 0);
+        return Err(Reason::Length.at(0));
     }
-    if is_type(line, 69, 32) {
-        return read_event(line, flags, values, text);
+    if is_type(line, b'E', b' ') {
+        read_event(line, flags, values, text)
+    } else if is_type(line, b'D', b'E') {
+        read_delete(line)
+    } else if is_type(line, b'L', b'I') {
+        read_link(line)
+    } else {
+        Err(Reason::Type.at(1))
     }
-    if is_type(line, 68, 69) {
-        return read_delete(line);
-    }
-    if is_type(line, 76, 73) {
-        return read_link(line);
-    }
-    Read::Refused(super::TYPE, 1)
 }
 
 // An event's record, its 19 numbers and 13 text bytes, as a line of 80 bytes over the first of `out`. Nothing is changed
 // where it is refused.
-pub fn write_event(flags: &[u8; 19], values: &[i64; 19], text: &[u8; 13], out: &mut [u8]) -> Outcome
+pub fn write_event(
+    flags: &[u8; 19],
+    values: &[i64; 19],
+    text: &[u8; 13],
+    out: &mut [u8],
+) -> Result<(), Refusal>
     ensures { Wrote (write_message (event (slots_of flags.now values.now) text.now) (length out.old)) result out.old out.new }
 {
     if out.len() < 80 {
-        return Outcome::Refused(columns::SHORT, 0);
+        return Err(Reason::Short.at(0));
     }
-    let mut line = [32u8; 80];
-    line[0] = 69;
-    let r = put_columns(
-        flags,
-        values,
-        text,
-        &EVENT_ROWS,
-        0,
-        EVENT_COLUMNS,
-        &EVENT_RANGES,
-        &EVENT_LETTERS,
-        &mut line,
-        2,
-    );
+    let mut line = [b' '; 80];
+    line[0] = b'E';
+    put_columns(flags, values, text, &EVENT_TABLE, &mut line, 2)?;
     line[79] = check_character(&line[0..79]);
-    let mut count = 80;
-    if let Outcome::Refused(_, _) = r {
-        count = 0;
-    }
-    copy(out, &line[0..count]);
-    r
+    copy(out, &line);
+    Ok(())
 }
 
 // A DE or an LI line, whose parts are well formed or not, over the first bytes of `out`. Nothing is changed where it is refused.
@@ -205,29 +184,25 @@ pub fn put_text(
     last: usize,
     formed: bool,
     out: &mut [u8],
-) -> Outcome
+) -> Result<(), Refusal>
     requires { high ≤ 255 }
     ensures { Wrote (put_text low high last line.now formed (length out.old)) result out.old out.new }
 {
     let len = line.len();
-    if len < low {
-        return Outcome::Refused(super::LENGTH, 0);
-    }
-    if high < len {
-        return Outcome::Refused(super::LENGTH, 0);
+    if len < low || high < len {
+        return Err(Reason::Length.at(0));
     }
     if out.len() < len {
-        return Outcome::Refused(columns::SHORT, 0);
+        return Err(Reason::Short.at(0));
     }
-    let barred = first_barred(line, 1, 3, last);
-    if barred != 0 {
-        return Outcome::Refused(columns::BARRED, barred);
+    if let Some(column) = first_barred(line, 1, 3, last) {
+        return Err(Reason::Barred.at(column));
     }
     if !formed {
-        return Outcome::Refused(columns::FORM, 15);
+        return Err(Reason::Form.at(15));
     }
     copy(out, line);
-    Outcome::Done
+    Ok(())
 }
 
 // The line of a delete, in the first bytes of 80.
@@ -236,8 +211,8 @@ fn delete_line(names: &[u8], text: &[u8]) -> [u8; 80]
     ensures { result ≡ over (delete_line names.now text.now) (replicate 80 0) }
 {
     let mut line = [0u8; 80];
-    line[0] = 68;
-    line[1] = 69;
+    line[0] = b'D';
+    line[1] = b'E';
     copy_at(&mut line, 2, names);
     copy_at(&mut line, 13, text);
     line
@@ -245,13 +220,13 @@ fn delete_line(names: &[u8], text: &[u8]) -> [u8; 80]
 
 // A delete's record, identifier, source and version and its free text, as a line over the first bytes of `out`. Nothing is
 // changed where it is refused.
-pub fn write_delete(names: &[u8], text: &[u8], out: &mut [u8]) -> Outcome
+pub fn write_delete(names: &[u8], text: &[u8], out: &mut [u8]) -> Result<(), Refusal>
     requires { length names.now ≡ 11 }
     ensures { Wrote (write_message (delete names.now text.now) (length out.old)) result out.old out.new }
 {
     let len = text.len();
     if 67 < len {
-        return Outcome::Refused(super::LENGTH, 0);
+        return Err(Reason::Length.at(0));
     }
     let end = 13 + len;
     let line = delete_line(names, text);

@@ -3,16 +3,15 @@ ghost use Rattle.std.specs.Prelude.{◌≡◌, ◌++◌, ◌+◌, ◌≤◌, len
 ghost use Rattle.columns.specs.Bytes.{same_bytes};
 ghost use Rattle.columns.specs.Table.{over};
 ghost use Rattle.formats.specs.Cube.{event_kind, link_kind, delete_of, link_of};
-ghost use Rattle.formats.specs.Record.{packed, Replied, replied};
+ghost use Rattle.formats.specs.Record.{packed, Replied};
 ghost use Rattle.formats.specs.CubeRecord.{filled, record_of, read_into, write_from};
 
-use super::Reply;
-use super::cube::{DELETE, EVENT, LINK, Read, read_line, write_delete, write_event};
+use super::cube::{DELETE, EVENT, LINK, Parts, read_line, write_delete, write_event};
 use super::link::write_link;
 use super::record::{get_numbers, pack};
-use columns::Outcome;
 use columns::bytes::{copy, copy_at, same};
 use columns::cursor::Cursor;
+use columns::{Reason, Refusal};
 
 // The bytes of a record of any kind.
 pub const RECORD: usize = 268;
@@ -84,45 +83,25 @@ fn put_event(out: &mut [u8], flags: &[u8; 19], values: &[i64; 19], text: &[u8; 9
 }
 
 // A CUBE line read into a record, over the first bytes of `out`. Nothing is changed where it is refused.
-pub fn read_into(line: &[u8], out: &mut [u8]) -> Reply
+pub fn read_into(line: &[u8], out: &mut [u8]) -> Result<usize, Refusal>
     ensures { Replied (read_into line.now (length out.old)) result out.old out.new }
 {
     if out.len() < RECORD {
-        return Reply::Refused(columns::SHORT, 0);
+        return Err(Reason::Short.at(0));
     }
     let mut flags = [0u8; 19];
     let mut values = [0i64; 19];
     let mut text = [0u8; 96];
-    match read_line(line, &mut flags, &mut values, &mut text) {
-        Read::Refused(number, column) => Reply::Refused(number, column),
-        Read::There(kind, type_len, address_len, _) => {
-            if kind == EVENT {
-                put_event(out, &flags, &values, &text);
-                return Reply::Done(RECORD);
-            }
-            if kind == LINK {
-                let bytes = link_bytes(line, type_len, address_len);
-                copy(out, &bytes);
-                return Reply::Done(RECORD);
-            }
-            let bytes = delete_bytes(line);
-            copy(out, &bytes);
-            Reply::Done(RECORD)
-        }
+    match read_line(line, &mut flags, &mut values, &mut text)? {
+        Parts::Event => put_event(out, &flags, &values, &text),
+        Parts::Link { kind, address, .. } => copy(out, &link_bytes(line, kind, address)),
+        Parts::Delete { .. } => copy(out, &delete_bytes(line)),
     }
-}
-
-pub fn reply_of(r: Outcome, len: usize) -> Reply
-    ensures { result ≡ replied r len }
-{
-    match r {
-        Outcome::Done => Reply::Done(len),
-        Outcome::Refused(number, column) => Reply::Refused(number, column),
-    }
+    Ok(RECORD)
 }
 
 // The line of an event's record, of exactly 268 bytes.
-fn write_event_from(from: &[u8], out: &mut [u8]) -> Reply
+fn write_event_from(from: &[u8], out: &mut [u8]) -> Result<usize, Refusal>
     requires { (length from.now ≡ 268) × (get_or from.now 0 0 ≡ event_kind) }
     ensures { Replied (write_from from.now (length out.old)) result out.old out.new }
 {
@@ -132,26 +111,34 @@ fn write_event_from(from: &[u8], out: &mut [u8]) -> Reply
     get_numbers(&from[1..268], &from[20..268], &mut flags, &mut values);
     copy(&mut text, &from[172..185]);
     if is_packed(&flags, &values, &text, from) {
-        return reply_of(write_event(&flags, &values, &text, out), 80);
+        write_event(&flags, &values, &text, out)?;
+        return Ok(80);
     }
-    Reply::Refused(columns::FORM, 0)
+    Err(Reason::Form.at(0))
 }
 
 // The line of a delete's record, of exactly 268 bytes, with a text of `len` bytes.
-fn write_delete_from(from: &[u8], len: u8, out: &mut [u8]) -> Reply
+fn write_delete_from(from: &[u8], len: u8, out: &mut [u8]) -> Result<usize, Refusal>
     requires { (length from.now ≡ 268) × ((get_or from.now 0 0 ≡ event_kind → ⊥) × ((get_or from.now 0 0 ≡ link_kind → ⊥) × (get_or from.now 1 0 ≡ len))) }
     ensures { Replied (write_from from.now (length out.old)) result out.old out.new }
 {
     let end = 13 + (len as usize);
     let head = [DELETE, len];
     if is_laid(&head, &from[2..end], from) {
-        return reply_of(write_delete(&from[2..13], &from[13..end], out), end);
+        write_delete(&from[2..13], &from[13..end], out)?;
+        return Ok(end);
     }
-    Reply::Refused(columns::FORM, 0)
+    Err(Reason::Form.at(0))
 }
 
 // The line of a link's record, of exactly 268 bytes, with a type, an address and a text of these lengths.
-fn write_link_from(from: &[u8], kind: u8, address: u8, text: u8, out: &mut [u8]) -> Reply
+fn write_link_from(
+    from: &[u8],
+    kind: u8,
+    address: u8,
+    text: u8,
+    out: &mut [u8],
+) -> Result<usize, Refusal>
     requires { (length from.now ≡ 268) × ((get_or from.now 0 0 ≡ link_kind) × ((get_or from.now 1 0 ≡ kind) × ((get_or from.now 2 0 ≡ address) × (get_or from.now 3 0 ≡ text)))) }
     ensures { Replied (write_from from.now (length out.old)) result out.old out.new }
 {
@@ -159,39 +146,29 @@ fn write_link_from(from: &[u8], kind: u8, address: u8, text: u8, out: &mut [u8])
     let rest = start + (address as usize);
     let end = rest + (text as usize);
     if RECORD < end {
-        return Reply::Refused(columns::FORM, 0);
+        return Err(Reason::Form.at(0));
     }
     let head = [LINK, kind, address, text];
     if is_laid(&head, &from[4..end], from) {
-        return reply_of(
-            write_link(
-                &from[4..16],
-                &from[16..start],
-                &from[start..rest],
-                &from[rest..end],
-                out,
-            ),
-            end + 1,
-        );
+        let (kind, address, text) = (&from[16..start], &from[start..rest], &from[rest..end]);
+        write_link(&from[4..16], kind, address, text, out)?;
+        return Ok(end + 1);
     }
-    Reply::Refused(columns::FORM, 0)
+    Err(Reason::Form.at(0))
 }
 
 // A CUBE line written from a record, over the first bytes of `out`. Nothing is changed where it is refused.
-pub fn write_from(from: &[u8], out: &mut [u8]) -> Reply
+pub fn write_from(from: &[u8], out: &mut [u8]) -> Result<usize, Refusal>
     ensures { Replied (write_from from.now (length out.old)) result out.old out.new }
 {
     if from.len() < RECORD {
-        return Reply::Refused(columns::FORM, 0);
+        return Err(Reason::Form.at(0));
     }
     if from[0] == EVENT {
         return write_event_from(&from[0..268], out);
     }
-    let first = from[1];
     if from[0] == LINK {
-        let second = from[2];
-        let third = from[3];
-        return write_link_from(&from[0..268], first, second, third, out);
+        return write_link_from(&from[0..268], from[1], from[2], from[3], out);
     }
-    write_delete_from(&from[0..268], first, out)
+    write_delete_from(&from[0..268], from[1], out)
 }

@@ -1,128 +1,143 @@
-// Lines by their first letter: tables of the kinds' letters and of which may come where, the kinds of their records numbered from
-// `first` on.
-ghost use Rattle.std.specs.Prelude.{◌≡◌, List, ℕ, ◌+◌, ◌≤◌, length, get_or};
+// Lines by their first letter: the kinds of lines, which of them may come where, and a line alone read and written.
+ghost use Rattle.std.specs.Prelude.{◌≡◌, ◌∷◌, ◌==◌, length, find};
 ghost use Rattle.columns.specs.Table.{outcome_of};
 ghost use Rattle.formats.specs.Record.{Replied};
 ghost use Rattle.formats.specs.Format.{format_of};
-ghost use Rattle.formats.specs.Lettered.{Lettered, kinds_of, kinds_at, kind_in, read_placed, read_lettered_into, write_lettered};
+ghost use Rattle.formats.specs.Lettered.{lettered_of, leading, kind_in, read_placed, read_lettered_into, write_lettered};
 ghost use Rattle.formats.specs.BlockWriting.{RepliedFrom};
 ghost use Rattle.formats.specs.RunWriting.{lettered_call};
-ghost use Rattle.formats.specs.RunSteps.{Leads};
+ghost use Rattle.formats.specs.RunSteps.{as_kind};
+ghost use Rattle.formats.specs.declared.lettered.LineKind.{LineKind};
 
-use super::Reply;
 use super::block_writer::write_record;
-use super::format::format_of;
-use super::lines::scan_end;
-use super::row::{judge_row, read_row_into, write_row_from};
-use columns::Outcome;
-use columns::bytes::first_barred;
+use super::row::{judge_made, judge_row, read_row_into, write_row_from};
+use columns::{Reason, Refusal};
 
-// What a line's first letter says: the letter and the place of its kind, or the number of a refusal and its column.
+// A kind of line: its letter; the number of its record's kind, by which its columns are found; its rank, and the highest rank of a
+// line that it may follow.
 #[derive(Clone, Copy)]
-pub enum Lead {
-    Kind(u8, usize),
-    Refused(u8, usize),
+pub struct LineKind {
+    pub letter: u8,
+    pub kind: u8,
+    pub rank: u8,
+    pub after: u8,
 }
 
-// The kind of a line by its first letter: 1 where it is empty, 3 where no kind has that letter.
-pub fn lead_of(letters: &[u8], line: &[u8]) -> Lead
-    ensures { Leads letters.now line.now result }
-{
-    if line.len() == 0 {
-        return Lead::Refused(super::LENGTH, 0);
-    }
-    let b = line[0];
-    let i = scan_end(letters, 0, b);
-    if letters.len() <= i {
-        return Lead::Refused(super::TYPE, 1);
-    }
-    Lead::Kind(b, i)
+// What stands before the first line: above every rank, so that only a kind that may follow it begins.
+pub const START: u8 = 9;
+
+// The kind whose lines open an event, and the others.
+#[derive(Clone, Copy)]
+pub struct Kinds<'a> {
+    pub opener: LineKind,
+    pub others: &'a [LineKind],
 }
 
 // The answer for a line of a kind, which may come where it stands or not.
-pub fn judge_placed(kind: u8, line: &[u8], placed: bool) -> Outcome
+pub fn judge_placed(kind: u8, line: &[u8], placed: bool) -> Result<(), Refusal>
     ensures { result ≡ outcome_of (read_placed placed (format_of kind).columns line.now) }
 {
     if placed {
         return judge_row(kind, line);
     }
-    let f = format_of(kind);
-    let width = f.width;
-    if width < line.len() {
-        return Outcome::Refused(super::LENGTH, 0);
+    judge_made(kind, line)?;
+    Err(Reason::OutOfPlace.at(0))
+}
+
+// The first of some kinds that has a letter.
+fn with_letter(kinds: &[LineKind], letter: u8) -> Option<LineKind>
+    ensures { result ≡ find (λ (k : LineKind). letter == k.letter) kinds.now }
+{
+    kinds.iter().copied().find(|k| letter == k.letter)
+}
+
+// The first of some kinds whose records have a number.
+fn with_number(kinds: &[LineKind], number: u8) -> Option<LineKind>
+    ensures { result ≡ find (λ (k : LineKind). number == k.kind) kinds.now }
+{
+    kinds.iter().copied().find(|k| number == k.kind)
+}
+
+// The kind of a line by its first letter, of kinds in any number: 1 where it is empty, 3 where no kind has that letter.
+pub fn lead_of(kinds: &[LineKind], line: &[u8]) -> Result<LineKind, Refusal>
+    ensures { result ≡ as_kind (leading kinds.now line.now) }
+{
+    if line.len() == 0 {
+        return Err(Reason::Length.at(0));
     }
-    let barred = first_barred(line, 1, 0, 0);
-    if barred != 0 {
-        return Outcome::Refused(columns::BARRED, barred);
+    match with_letter(kinds, line[0]) {
+        None => Err(Reason::Type.at(1)),
+        Some(kind) => Ok(kind),
     }
-    Outcome::Refused(super::OUT_OF_PLACE, 0)
 }
 
 // A line alone read into the record of its kind, over the first bytes of `out`, which has `most` bytes at least. Nothing is changed
 // where it is refused.
 pub fn read_lettered_into(
-    letters: &[u8],
-    first: u8,
+    kinds: &[LineKind],
     most: usize,
     line: &[u8],
     out: &mut [u8],
-) -> Reply
-    requires { first + length letters.now ≤ 256 }
-    ensures { (ranks afters : List ℕ) → Replied (read_lettered_into (kinds_at letters.now ranks afters first) most line.now (length out.old)) result out.old out.new }
+) -> Result<usize, Refusal>
+    ensures { Replied (read_lettered_into kinds.now most line.now (length out.old)) result out.old out.new }
 {
     if out.len() < most {
-        return Reply::Refused(columns::SHORT, 0);
+        return Err(Reason::Short.at(0));
     }
-    let lead = lead_of(letters, line);
-    match lead {
-        Lead::Refused(number, column) => Reply::Refused(number, column),
-        Lead::Kind(_, i) => read_row_into(first + (i as u8), line, out),
-    }
+    read_row_into(lead_of(kinds, line)?.kind, line, out)
 }
 
-// The first byte, 0 where there is none.
-fn first_byte(s: &[u8]) -> u8
-    ensures { result ≡ get_or s.now 0 0 }
-{
-    if s.len() == 0 {
-        return 0;
+impl Kinds<'_> {
+    // The kind that a letter names.
+    pub fn named(self, letter: u8) -> Option<LineKind>
+        ensures { result ≡ find (λ (k : LineKind). letter == k.letter) (self.entry.opener ∷ self.entry.others.now) }
+    {
+        if letter == self.opener.letter {
+            return Some(self.opener);
+        }
+        with_letter(self.others, letter)
     }
-    s[0]
-}
 
-// The kind of a record by its first byte: the first kind where that is none's.
-fn kind_in(letters: &[u8], first: u8, from: &[u8]) -> u8
-    requires { first + length letters.now ≤ 256 }
-    ensures { (ranks afters : List ℕ) (L : Lettered) → kinds_at letters.now ranks afters first ≡ kinds_of L → result ≡ (kind_in L from.now).kind }
-{
-    let k = first_byte(from);
-    if k < first {
-        return first;
+    // The kind of a line, as `lead_of` of all of them.
+    pub fn lead_of(self, line: &[u8]) -> Result<LineKind, Refusal>
+        ensures { result ≡ as_kind (leading (self.entry.opener ∷ self.entry.others.now) line.now) }
+    {
+        if line.len() == 0 {
+            return Err(Reason::Length.at(0));
+        }
+        match self.named(line[0]) {
+            None => Err(Reason::Type.at(1)),
+            Some(kind) => Ok(kind),
+        }
     }
-    if letters.len() <= (k - first) as usize {
-        return first;
+
+    // The kind of a record by its first byte: the opener where that is none's.
+    fn kind_in(self, from: &[u8]) -> LineKind
+        ensures { result ≡ kind_in (lettered_of self.entry.opener self.entry.others.now) from.now }
+    {
+        let number = from.first().copied().unwrap_or(0);
+        if number == self.opener.kind {
+            return self.opener;
+        }
+        with_number(self.others, number).unwrap_or(self.opener)
     }
-    k
-}
 
-// A line written from the record of its kind, over the first bytes of `out`. Nothing is changed where it is refused.
-pub fn write_lettered(letters: &[u8], first: u8, from: &[u8], out: &mut [u8]) -> Reply
-    requires { first + length letters.now ≤ 256 }
-    ensures { (ranks afters : List ℕ) (L : Lettered) → kinds_at letters.now ranks afters first ≡ kinds_of L → Replied (write_lettered L from.now (length out.old)) result out.old out.new }
-{
-    write_row_from(kind_in(letters, first, from), from, out)
-}
+    // A line written from the record of its kind, over the first bytes of `out`. Nothing is changed where it is refused.
+    pub fn write_lettered(self, from: &[u8], out: &mut [u8]) -> Result<usize, Refusal>
+        ensures { Replied (write_lettered (lettered_of self.entry.opener self.entry.others.now) from.now (length out.old)) result out.old out.new }
+    {
+        write_row_from(self.kind_in(from).kind, from, out)
+    }
 
-// The same with a newline, from place `at` of `out` on; answers the place after it.
-pub fn write_lettered_record(
-    letters: &[u8],
-    first: u8,
-    from: &[u8],
-    out: &mut [u8],
-    at: usize,
-) -> Reply
-    requires { first + length letters.now ≤ 256 }
-    ensures { (ranks afters : List ℕ) (L : Lettered) → kinds_at letters.now ranks afters first ≡ kinds_of L → RepliedFrom at (lettered_call L from.now at (length out.old)) result out.old out.new }
-{
-    write_record(kind_in(letters, first, from), from, out, at)
+    // The same with a newline, from place `at` of `out` on; answers the place after it.
+    pub fn write_lettered_record(
+        self,
+        from: &[u8],
+        out: &mut [u8],
+        at: usize,
+    ) -> Result<usize, Refusal>
+        ensures { RepliedFrom at (lettered_call (lettered_of self.entry.opener self.entry.others.now) from.now at (length out.old)) result out.old out.new }
+    {
+        write_record(self.kind_in(from).kind, from, out, at)
+    }
 }

@@ -1,6 +1,9 @@
 // Formats: CUBE messages, rows of file formats (the ISF phase and arrival lines in blocks, the Calnet cards in runs), and the bytes of their records.
 #![tactic(auto)]
 
+ghost use Rattle.std.specs.Prelude.{◌≡◌};
+ghost use Rattle.formats.specs.Refused.{refused_line};
+
 pub mod block;
 pub mod block_line;
 pub mod block_reader;
@@ -23,20 +26,25 @@ pub mod run;
 pub mod run_walk;
 pub mod table;
 
-// The numbers answered for a line, beside those of its columns (document 01, "Numbers answered").
-pub const LENGTH: u8 = 1;
+use columns::{Reason, Refusal};
 
-pub const TYPE: u8 = 3;
+// A refused line of a block or a run: why, the column, and the line's number from 1; 0 where it is no line's.
+#[derive(Clone, Copy, PartialEq, Eq, Debug)]
+pub struct LineRefusal {
+    pub reason: Reason,
+    pub column: usize,
+    pub line: usize,
+}
 
-pub const CHECK: u8 = 9;
-
-pub const OUT_OF_PLACE: u8 = 14;
-
-pub const NOT_CLOSED: u8 = 15;
-
-// The answer of a call that writes into a lent place: the number of bytes written, or the number of a refusal and its column.
-#[derive(Clone, Copy)]
-pub enum Reply {
-    Done(usize),
-    Refused(u8, usize),
+impl LineRefusal {
+    // The refusal of a line by its number.
+    pub fn on_line(refusal: Refusal, line: usize) -> LineRefusal
+        ensures { result ≡ refused_line refusal.reason refusal.column line }
+    {
+        LineRefusal {
+            reason: refusal.reason,
+            column: refusal.column,
+            line,
+        }
+    }
 }

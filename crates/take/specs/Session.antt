@@ -15,6 +15,10 @@ pub record Session : Type 0 where
   pub line : List ℕ
   pub number : ℕ
 
+-- the session of a room, of the array kept for a line, of how many of its bytes have come, and of how many lines were taken
+abbrev pub session_of : List ℕ → List ℕ → ℕ → ℕ → Session
+session_of room line len number = record { room = room; line = take len line; number = number }
+
 -- the line ends: it is taken, and its answer said
 unfoldable pub ended : Session → Session
 ended s = record { room = room_after s.room s.line; line = []; number = s.number + 1 }

@@ -1,23 +1,10 @@
--- What the program prints, as bytes, and what it means that bytes are put at a place. Document 01, "The program".
-use Rattle.std.specs.Prelude.{ℕ, zero, suc, ◌+◌, ◌/◌, ◌%◌, ◌≤◌, ◌≡◌, List, [], ◌∷◌, ◌++◌, ltb, length, take}
+-- What the program prints, as bytes. Document 01, "The program".
+use Rattle.std.specs.Prelude.{ℕ, zero, suc, ◌+◌, ◌/◌, ◌%◌, List, [], ◌∷◌, ◌++◌, ltb, length}
 use Rattle.columns.specs.Answer.{pick}
-use Rattle.catalogue.specs.declared.Call.{Call}
-use Rattle.catalogue.specs.declared.section.Section.{Section}
+use Rattle.catalogue.specs.Answers.{Call, call_number, call_column}
 use Rattle.catalogue.specs.Catalogue.{Catalogue}
 use Rattle.catalogue.specs.Room.{call_of, room_after}
-use Rattle.catalogue.specs.Entries.{Inside}
 use Rattle.take.specs.Links.{shown}
-
--- the bytes s stand in `after` from `at` on, behind the bytes that stood before `at`; `next` is the place after them
-pub record Put (before : List ℕ) (at : ℕ) (s after : List ℕ) (next : ℕ) : Type 0 where
-  pub place : next ≡ at + length s
-  pub bytes : take next after ≡ take at before ++ s
-
--- a section of a room that can be printed: it lies in the room, and is small enough
-pub record Printable (of : Section) (room : List ℕ) : Type 0 where
-  pub inside : Inside of room
-  pub small : of.size ≤ 256
-  pub few : of.count ≤ 512
 
 -- a number's decimal digits, at most k of them
 unfoldable pub digits : ℕ → ℕ → List ℕ
@@ -34,7 +21,7 @@ heading = 108 ∷ 105 ∷ 110 ∷ 101 ∷ 32 ∷ 97 ∷ 110 ∷ 115 ∷ 119 ∷ 
 
 -- a line's number, the number answered and the column
 unfoldable pub answer_line : ℕ → Call → List ℕ
-answer_line n c = decimal n ++ (32 ∷ decimal c.number ++ (32 ∷ decimal c.column ++ (10 ∷ [])))
+answer_line n c = decimal n ++ (32 ∷ decimal (call_number c) ++ (32 ∷ decimal (call_column c) ++ (10 ∷ [])))
 
 -- one answer for each line, each line taken into the room as the last one left it; n lines stood before them
 unfoldable pub answers : ℕ → List ℕ → List (List ℕ) → List ℕ

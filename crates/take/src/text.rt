@@ -1,110 +1,112 @@
-// Text put into a lent buffer: each call puts its bytes at a place and answers the place after them.
-ghost use Rattle.std.specs.Prelude.{◌≡◌, [], ◌∷◌, ◌+◌, ◌*◌, ◌^◌, ◌≤◌, ◌<◌, length};
+// Text put behind what is gathered.
+ghost use Rattle.std.specs.Prelude.{◌≡◌, [], ◌∷◌, ◌++◌, ◌+◌, ◌*◌, ◌^◌, ◌≤◌, ◌<◌, length};
 ghost use Rattle.catalogue.specs.Ordered.{Ordered};
 ghost use Rattle.catalogue.specs.Room.{contents};
 ghost use Rattle.catalogue.specs.Entries.{entries_of};
-ghost use Rattle.take.specs.Text.{Put, Printable, digits, decimal, answer_line, row_lines, section, catalogue_text};
+ghost use Rattle.take.specs.Text.{digits, decimal, heading, answer_line, row_lines, section, catalogue_text};
 
 use super::links::put_links;
-use catalogue::Call;
+use super::page::Page;
 use catalogue::room::{deletions_in, held_in, links_in};
-use catalogue::section::{Section, entry_at};
-use catalogue::splice::copy_in;
-
-pub const NEWLINE: u8 = 10;
-
-const BLANK: u8 = 32;
-
-const ZERO: u8 = 48;
+use catalogue::section::Entries;
+use catalogue::{Effect, column_of, number_of};
+use columns::Refusal;
 
 // The most digits that a number of 64 bits has.
 const DIGITS: usize = 20;
 
-pub fn put_byte(out: &mut [u8], at: usize, b: u8) -> usize
-    requires { at < length out.old }
-    ensures { Put out.old at (b ∷ []) out.new result }
-{
-    out[at] = b;
-    at + 1
-}
-
-pub fn put_bytes(out: &mut [u8], at: usize, s: &[u8]) -> usize
-    requires { at + length s.now ≤ length out.old }
-    ensures { Put out.old at s.now out.new result }
-{
-    copy_in(out, at, s);
-    at + s.len()
-}
-
 // The digits of a number that has at most `most` of them.
-fn put_digits(out: &mut [u8], at: usize, n: u64, most: usize) -> usize
-    requires { (at + most ≤ length out.old) × (1 ≤ most) × (n < 10 ^ most) }
-    ensures { Put out.old at (digits most n) out.new result }
+fn put_digits(out: &mut Page, n: u64, most: usize)
+    requires { (length out.old + most ≤ 65536) × (1 ≤ most) × (n < 10 ^ most) }
+    ensures { out.new ≡ out.old ++ digits most n }
 {
     if n < 10 {
-        return put_byte(out, at, ZERO + n as u8);
+        out.put_byte(b'0' + n as u8);
+        return;
     }
-    let next = put_digits(out, at, n / 10, most - 1);
-    put_byte(out, next, ZERO + (n % 10) as u8)
+    put_digits(out, n / 10, most - 1);
+    out.put_byte(b'0' + (n % 10) as u8);
 }
 
-pub fn put_number(out: &mut [u8], at: usize, n: u64) -> usize
-    requires { at + 20 ≤ length out.old }
-    ensures { Put out.old at (decimal n) out.new result × (result ≤ at + 20) }
+pub fn put_number(out: &mut Page, n: u64)
+    requires { length out.old + 20 ≤ 65536 }
+    ensures { (out.new ≡ out.old ++ decimal n) × (length out.new ≤ length out.old + 20) }
 {
-    put_digits(out, at, n, DIGITS)
+    put_digits(out, n, DIGITS);
+}
+
+#[tactic(auto, unfolding(crate::specs::Text::heading))]
+pub fn put_heading(out: &mut Page)
+    requires { length out.old + 19 ≤ 65536 }
+    ensures { out.new ≡ out.old ++ heading }
+{
+    out.put_bytes(b"line answer column\n");
 }
 
 // A line's number, the number answered and the column.
-pub fn put_answer(out: &mut [u8], at: usize, number: u64, call: Call) -> usize
-    requires { at + 63 ≤ length out.old }
-    ensures { Put out.old at (answer_line number call) out.new result × (result ≤ at + 63) }
+pub fn put_answer(out: &mut Page, number: u64, call: Result<Effect, Refusal>)
+    requires { length out.old + 63 ≤ 65536 }
+    ensures { (out.new ≡ out.old ++ answer_line number call) × (length out.new ≤ length out.old + 63) }
 {
-    let a = put_number(out, at, number);
-    let b = put_byte(out, a, BLANK);
-    let c = put_number(out, b, call.number as u64);
-    let d = put_byte(out, c, BLANK);
-    let e = put_number(out, d, call.column as u64);
-    put_byte(out, e, NEWLINE)
+    put_number(out, number);
+    out.put_byte(b' ');
+    put_number(out, u64::from(number_of(call)));
+    out.put_byte(b' ');
+    put_number(out, column_of(call) as u64);
+    out.put_byte(b'\n');
 }
 
 // The entries of a section, each on a line of its own.
-fn put_entries(out: &mut [u8], at: usize, room: &[u8], of: Section) -> usize
-    requires { Printable of room.now × (at + (of.size + 1) * of.count ≤ length out.old) }
-    ensures { Put out.old at (row_lines (entries_of of room.now)) out.new result × (result ≡ at + (of.size + 1) * of.count) }
+fn put_entries(out: &mut Page, entries: &Entries)
+    requires { length out.old + (entries.now.of.size + 1) * entries.now.of.count ≤ 65536 }
+    ensures { (out.new ≡ out.old ++ row_lines (entries_of entries.now.of entries.now.bytes.now)) × (length out.new ≡ length out.old + (entries.now.of.size + 1) * entries.now.of.count) }
 {
-    let mut to = at;
-    let mut i = 0;
-    while i < of.count {
-        let from = entry_at(room, of, i);
-        let end = from + of.size;
-        to = put_bytes(out, to, &room[from..end]);
-        to = put_byte(out, to, NEWLINE);
-        i += 1;
+    for i in 0..entries.of.count {
+        out.put_bytes(entries.entry(i));
+        out.put_byte(b'\n');
     }
-    to
 }
 
 // A section: its title and count, then its entries.
-fn put_section(out: &mut [u8], at: usize, title: &[u8], room: &[u8], of: Section) -> usize
-    requires { Printable of room.now × (at + length title.now + 21 + (of.size + 1) * of.count ≤ length out.old) }
-    ensures { Put out.old at (section title.now (entries_of of room.now)) out.new result × (result ≤ at + length title.now + 21 + (of.size + 1) * of.count) }
+fn put_section(out: &mut Page, title: &[u8], entries: &Entries)
+    requires { length out.old + length title.now + 21 + (entries.now.of.size + 1) * entries.now.of.count ≤ 65536 }
+    ensures { (out.new ≡ out.old ++ section title.now (entries_of entries.now.of entries.now.bytes.now)) × (length out.new ≤ length out.old + length title.now + 21 + (entries.now.of.size + 1) * entries.now.of.count) }
 {
-    let a = put_bytes(out, at, title);
-    let b = put_number(out, a, of.count as u64);
-    let c = put_byte(out, b, NEWLINE);
-    put_entries(out, c, room, of)
+    out.put_bytes(title);
+    put_number(out, entries.of.count as u64);
+    out.put_byte(b'\n');
+    put_entries(out, entries);
 }
 
 // The held lines, the deletions, the links: at most 64,082 bytes.
-pub fn put_catalogue(out: &mut [u8], room: &[u8]) -> usize
-    requires { Ordered room.now × (64082 ≤ length out.old) }
-    ensures { Put out.old 0 (catalogue_text (contents room.now)) out.new result × (result ≤ 64082) }
+pub fn put_catalogue(out: &mut Page, room: &[u8])
+    requires { Ordered room.now × (length out.old + 64082 ≤ 65536) }
+    ensures { out.new ≡ out.old ++ catalogue_text (contents room.now) }
 {
     let held = held_in(room);
     let deletions = deletions_in(room, held);
     let links = links_in(room, deletions);
-    let at = put_section(out, 0, b"held ", room, held);
-    let next = put_section(out, at, b"deleted ", room, deletions);
-    put_links(out, next, room, links)
+    put_section(
+        out,
+        b"held ",
+        &Entries {
+            bytes: room,
+            of: held,
+        },
+    );
+    put_section(
+        out,
+        b"deleted ",
+        &Entries {
+            bytes: room,
+            of: deletions,
+        },
+    );
+    put_links(
+        out,
+        &Entries {
+            bytes: room,
+            of: links,
+        },
+    );
 }

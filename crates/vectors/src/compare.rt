@@ -1,245 +1,178 @@
 // The library's reader and the second one held against each other on one line.
-ghost use Rattle.std.specs.Prelude.{◌≡◌, ◌≤◌, length};
-
-use super::report::{say, say_bytes};
-use super::second::{EVENT, LINK, Reading, refused};
-use columns::bytes::copy;
-use formats::Reply;
-use formats::cube_record::{read_into, write_from};
+use super::second::{Record, read_line};
+use formats::cube_record::{RECORD, read_into, write_from};
 use formats::record::get_numbers;
 use std::io;
 
-// Of a group of lines: on how many the readers agree and differ, and how many both accept. Of all lines: how many got
-// each answer of the library.
-#[derive(Clone, Copy)]
-pub struct Counts {
-    pub agree: u64,
-    pub differ: u64,
-    pub accepted: u64,
-    pub answers: [u64; 10],
+// A run of both readers, of which the outcomes are counted: of a group of lines on how many the readers agree and differ, and how many
+// both accept; of all lines how many got each answer of the library.
+#[derive(Drop)]
+pub struct Comparison<'a, R: Print> {
+    rt: &'a R,
+    agree: u64,
+    differ: u64,
+    accepted: u64,
+    answers: [u64; 10],
 }
 
-pub fn no_counts() -> Counts {
-    let answers = [0u64; 10];
-    Counts {
-        agree: 0,
-        differ: 0,
-        accepted: 0,
-        answers,
-    }
-}
-
-fn one_more(n: u64) -> u64 {
-    n.wrapping_add(1)
-}
-
-fn same_bytes(a: &[u8], b: &[u8]) -> bool {
-    if a.len() != b.len() {
-        return false;
-    }
-    let mut i = 0;
-    while i < a.len() {
-        if a[i] != b[i] {
-            return false;
-        }
-        i += 1;
-    }
-    true
-}
-
-fn same_values(a: &[i64; 19], b: &[i64; 19]) -> bool {
-    let mut i = 0;
-    while i < 19 {
-        if a[i] != b[i] {
-            return false;
-        }
-        i += 1;
-    }
-    true
-}
-
-fn same_record(a: Reading, b: Reading) -> bool {
-    let flags = a.flags;
-    let values = a.values;
-    let text = a.text;
-    let other_flags = b.flags;
-    let other_values = b.values;
-    let other_text = b.text;
-    if !same_bytes(&flags, &other_flags) {
-        return false;
-    }
-    if !same_values(&values, &other_values) {
-        return false;
-    }
-    same_bytes(&text, &other_text)
-}
-
-fn same(a: Reading, b: Reading) -> bool {
-    if a.answer != b.answer {
-        return false;
-    }
-    if a.column != b.column {
-        return false;
-    }
-    if a.kind != b.kind {
-        return false;
-    }
-    if a.type_length != b.type_length {
-        return false;
-    }
-    if a.address_length != b.address_length {
-        return false;
-    }
-    if a.length != b.length {
-        return false;
-    }
-    same_record(a, b)
-}
-
-// The text of a record, zeros after it.
-fn text_of(bytes: &[u8]) -> [u8; 250]
-    requires { length bytes.now ≤ 250 }
-{
-    let mut text = [0u8; 250];
-    copy(&mut text, bytes);
-    text
-}
-
-fn wide(b: u8) -> usize {
-    b as usize
-}
-
-// An event's record in the second reader's form.
-fn event_of(bytes: &[u8]) -> Reading
-    requires { length bytes.now ≡ 268 }
-{
+// The numbers of an event's record.
+fn numbers_in(bytes: &[u8; RECORD]) -> [Option<i64>; 19] {
     let mut flags = [0u8; 19];
     let mut values = [0i64; 19];
-    get_numbers(&bytes[1..268], &bytes[20..268], &mut flags, &mut values);
-    let text = text_of(&bytes[172..268]);
-    Reading {
-        answer: 0,
-        column: 0,
-        kind: EVENT,
-        type_length: 0,
-        address_length: 0,
-        length: 0,
-        flags,
-        values,
+    get_numbers(&bytes[1..], &bytes[20..], &mut flags, &mut values);
+    let mut numbers = [None; 19];
+    for (number, (flag, value)) in numbers.iter_mut().zip(flags.iter().zip(&values)) {
+        if *flag != 0 {
+            *number = Some(*value);
+        }
+    }
+    numbers
+}
+
+// An event's text, and the bytes after it.
+fn event_in(bytes: &[u8; RECORD]) -> Option<(Record<'_>, &[u8])> {
+    let (text, rest) = bytes[172..].split_first_chunk::<13>()?;
+    let record = Record::Event {
+        numbers: numbers_in(bytes),
+        text: *text,
+    };
+    Some((record, rest))
+}
+
+fn delete_in(bytes: &[u8; RECORD]) -> Option<(Record<'_>, &[u8])> {
+    let (names, rest) = bytes[2..].split_first_chunk::<11>()?;
+    let (text, rest) = rest.split_at_checked(usize::from(bytes[1]))?;
+    Some((Record::Delete { names, text }, rest))
+}
+
+fn link_in(bytes: &[u8; RECORD]) -> Option<(Record<'_>, &[u8])> {
+    let (names, rest) = bytes[4..].split_first_chunk::<12>()?;
+    let (kind, rest) = rest.split_at_checked(usize::from(bytes[1]))?;
+    let (address, rest) = rest.split_at_checked(usize::from(bytes[2]))?;
+    let (text, rest) = rest.split_at_checked(usize::from(bytes[3]))?;
+    let record = Record::Link {
+        names,
+        kind,
+        address,
         text,
+    };
+    Some((record, rest))
+}
+
+// What the library's record holds, in the second reader's form: none where its lengths do not fit or other bytes than zeros follow.
+fn record_in(bytes: &[u8; RECORD]) -> Option<Record<'_>> {
+    // the kinds of docs/RECORDS.md
+    let (record, rest) = match bytes[0] {
+        1 => event_in(bytes)?,
+        2 => delete_in(bytes)?,
+        4 => link_in(bytes)?,
+        _ => return None,
+    };
+    if rest.iter().all(|b| *b == 0) {
+        Some(record)
+    } else {
+        None
     }
 }
 
-// A delete's or a link's record in the second reader's form.
-fn words_of(bytes: &[u8]) -> Reading
-    requires { length bytes.now ≡ 268 }
-{
-    let flags = [0u8; 19];
-    let values = [0i64; 19];
-    let mut text = text_of(&bytes[2..252]);
-    let mut type_length = 0;
-    let mut address_length = 0;
-    let mut length = wide(bytes[1]);
-    if bytes[0] == LINK {
-        text = text_of(&bytes[4..254]);
-        type_length = wide(bytes[1]);
-        address_length = wide(bytes[2]);
-        length = wide(bytes[3]);
-    }
-    Reading {
-        answer: 0,
-        column: 0,
-        kind: bytes[0],
-        type_length,
-        address_length,
-        length,
-        flags,
-        values,
-        text,
+// What the library reads in a line, with its record in the lent bytes; of a refusal its number and its column.
+pub fn reading<'a>(
+    line: &[u8],
+    bytes: &'a mut [u8; RECORD],
+) -> Result<Option<Record<'a>>, (u8, usize)> {
+    match read_into(line, bytes) {
+        Ok(_) => Ok(record_in(bytes)),
+        Err(refusal) => Err((u8::from(refusal.reason), refusal.column)),
     }
 }
 
-fn of_record(bytes: &[u8]) -> Reading
-    requires { length bytes.now ≡ 268 }
-{
-    if bytes[0] == EVENT {
-        return event_of(bytes);
+// The line's bytes as decimal codes, since a damaged line may hold any, and both answers: 0 for none refused.
+fn say_difference(
+    rt: &impl Print,
+    line: &[u8],
+    library: Option<(u8, usize)>,
+    second: Option<(u8, usize)>,
+) -> io::Result<()> {
+    print!(rt; "differ on ")?;
+    for b in line {
+        print!(rt; "{b} ")?;
     }
-    words_of(bytes)
+    let (answer, column) = library.unwrap_or((0, 0));
+    let (other, other_column) = second.unwrap_or((0, 0));
+    println!(rt; "  library {answer} {column} second {other} {other_column}")
 }
 
-// What the library reads in a line, in the second reader's form.
-pub fn reading(line: &[u8]) -> Reading {
-    let mut record = [0u8; 268];
-    match read_into(line, &mut record) {
-        Reply::Done(_) => of_record(&record),
-        Reply::Refused(answer, column) => refused(answer, column),
+impl<'a, R: Print> Comparison<'a, R> {
+    pub fn new(rt: &'a R) -> Comparison<'a, R> {
+        Comparison {
+            rt,
+            agree: 0,
+            differ: 0,
+            accepted: 0,
+            answers: [0; 10],
+        }
     }
-}
 
-fn say_difference(rt: &impl Print, line: &[u8], a: Reading, b: Reading) -> io::Result<()> {
-    say(rt, b"differ on ")?;
-    say_bytes(rt, line)?;
-    let answer = a.answer;
-    let column = a.column;
-    let other_answer = b.answer;
-    let other_column = b.column;
-    println!(rt; "  library {answer} {column} second {other_answer} {other_column}")
-}
-
-// Counts the library's answer.
-fn count_answer(answer: u8, before: [u64; 10]) -> [u64; 10] {
-    let mut answers = before;
-    let n = answer as usize;
-    if n < 10 {
-        answers[n] = one_more(answers[n]);
+    // Counts the library's answer.
+    fn count(&mut self, answer: u8) {
+        if let Some(lines) = self.answers.get_mut(usize::from(answer)) {
+            *lines = lines.wrapping_add(1);
+        }
     }
-    answers
-}
 
-// Counts a line on which the readers agree.
-fn agreed(c: Counts, answer: u8) -> Counts {
-    let mut r = c;
-    r.agree = one_more(c.agree);
-    if answer == 0 {
-        r.accepted = one_more(c.accepted);
+    // Reads one line twice and counts the outcome; a difference is printed.
+    pub fn compare(&mut self, line: &[u8]) -> io::Result<()> {
+        let mut bytes = [0u8; RECORD];
+        let library = reading(line, &mut bytes);
+        let second = match read_line(line) {
+            Ok(record) => Ok(Some(record)),
+            Err(refused) => Err((refused.reason as u8, refused.column)),
+        };
+        let (answer, _) = library.err().unwrap_or((0, 0));
+        self.count(answer);
+        if library != second {
+            self.differ = self.differ.wrapping_add(1);
+            return say_difference(self.rt, line, library.err(), second.err());
+        }
+        self.agree = self.agree.wrapping_add(1);
+        if library.is_ok() {
+            self.accepted = self.accepted.wrapping_add(1);
+        }
+        Ok(())
     }
-    r
-}
 
-// Reads one line twice and counts the outcome; a difference is printed.
-pub fn compare(rt: &impl Print, start: Counts, line: &[u8]) -> io::Result<Counts> {
-    let a = reading(line);
-    let b = super::second::read_line(line);
-    let mut c = start;
-    let before = c.answers;
-    let answers = count_answer(a.answer, before);
-    c.answers = answers;
-    if same(a, b) {
-        return Ok(agreed(c, a.answer));
+    // Prints a group's counts; the answers are counted on.
+    pub fn close(&mut self, name: &str) -> io::Result<()> {
+        println!(self.rt;
+            "{name}: {} agree, {} differ, {} accepted",
+            self.agree, self.differ, self.accepted
+        )?;
+        self.agree = 0;
+        self.differ = 0;
+        self.accepted = 0;
+        Ok(())
     }
-    say_difference(rt, line, a, b)?;
-    c.differ = one_more(c.differ);
-    Ok(c)
+
+    // How many lines got each number that a line can get: none gets 4 or 8.
+    pub fn say_answers(&self) -> io::Result<()> {
+        for (answer, lines) in self.answers.iter().enumerate() {
+            if answer != 4 && answer != 8 {
+                println!(self.rt; "answer {answer}: {lines} lines")?;
+            }
+        }
+        Ok(())
+    }
 }
 
 // Whether the library's record of a line is written as that line.
 pub fn comes_back(line: &[u8]) -> bool {
-    let mut record = [0u8; 268];
+    let mut record = [0u8; RECORD];
     let mut out = [0u8; 255];
-    if let Reply::Refused(_, _) = read_into(line, &mut record) {
+    if read_into(line, &mut record).is_err() {
         return false;
     }
     match write_from(&record, &mut out) {
-        Reply::Refused(_, _) => false,
-        Reply::Done(length) => {
-            if length != line.len() {
-                return false;
-            }
-            if 255 < length {
-                return false;
-            }
-            same_bytes(line, &out[0..length])
-        }
+        Ok(length) => out.get(..length) == Some(line),
+        Err(_) => false,
     }
 }

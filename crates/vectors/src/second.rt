@@ -3,357 +3,236 @@
 mod link;
 mod number;
 
-ghost use Rattle.std.specs.Prelude.{◌≡◌, ◌+◌, ◌<◌, ◌≤◌, length};
+ghost use Rattle.std.specs.Prelude.{◌+◌, ◌<◌, ◌≤◌};
 
 use link::read_link;
-use number::{Number, read_number};
+use number::{BadForm, read_number};
 
-// The numbers answered (document 01, "Numbers answered").
-const READ: u8 = 0;
+// Why a line is refused (document 01, "Numbers answered").
+#[derive(Clone, Copy, PartialEq, Eq)]
+pub enum Reason {
+    Length = 1,
+    Barred = 2,
+    Type = 3,
+    Required = 5,
+    Form = 6,
+    Range = 7,
+    Check = 9,
+}
 
-const LENGTH: u8 = 1;
-
-const BARRED: u8 = 2;
-
-const TYPE: u8 = 3;
-
-const REQUIRED: u8 = 5;
-
-const FORM: u8 = 6;
-
-const RANGE: u8 = 7;
-
-const CHECK: u8 = 9;
-
-// The kinds of record (docs/RECORDS.md), and none.
-pub const NONE: u8 = 0;
-
-pub const EVENT: u8 = 1;
-
-const DELETE: u8 = 2;
-
-pub const LINK: u8 = 4;
-
-// An answer with its column and, of a line that was read, its kind, the lengths of a link's type, address and text or of a
-// delete's free text, and the record: 19 numbers with a flag for each that is not missing, and the text bytes in the order of
-// their columns.
-#[derive(Clone, Copy)]
-pub struct Reading {
-    pub answer: u8,
+#[derive(Clone, Copy, PartialEq, Eq)]
+pub struct Refused {
+    pub reason: Reason,
     pub column: usize,
-    pub kind: u8,
-    pub type_length: usize,
-    pub address_length: usize,
-    pub length: usize,
-    pub flags: [u8; 19],
-    pub values: [i64; 19],
-    pub text: [u8; 250],
 }
 
-fn wide(b: u8) -> u16 {
-    b as u16
-}
-
-pub fn refused(answer: u8, column: usize) -> Reading {
-    let flags = [0u8; 19];
-    let values = [0i64; 19];
-    let text = [0u8; 250];
-    Reading {
-        answer,
-        column,
-        kind: NONE,
-        type_length: 0,
-        address_length: 0,
-        length: 0,
-        flags,
-        values,
-        text,
+impl Reason {
+    fn at(self, column: usize) -> Refused {
+        Refused {
+            reason: self,
+            column,
+        }
     }
+}
+
+// A line that was read: an event's numbers, and its text bytes in the order of their columns; a delete's columns 3 to 13 and its free
+// text; a link's columns 3 to 14 and its parts.
+#[derive(Clone, Copy, PartialEq, Eq)]
+pub enum Record<'a> {
+    Event {
+        numbers: [Option<i64>; 19],
+        text: [u8; 13],
+    },
+    Delete {
+        names: &'a [u8; 11],
+        text: &'a [u8],
+    },
+    Link {
+        names: &'a [u8; 12],
+        kind: &'a [u8],
+        address: &'a [u8],
+        text: &'a [u8],
+    },
 }
 
 // The check character of all bytes: the sum is kept in 16 bits and turned by two shifts.
 pub fn check_character(s: &[u8]) -> u8 {
     let mut sum: u16 = 0;
-    let mut i = 0;
-    while i < s.len() {
+    for b in s {
         let turned = (sum >> 1) | (sum << 15);
-        sum = turned.wrapping_add(wide(s[i]));
-        i += 1;
+        sum = turned.wrapping_add(u16::from(*b));
     }
     36 + ((sum % 91) as u8)
 }
 
 // Brackets are barred from column 3 to a last one.
 fn is_barred(b: u8, column: usize, last: usize) -> bool {
-    if b < 32 {
-        return true;
-    }
-    if 126 < b {
-        return true;
-    }
-    if column < 3 {
-        return false;
-    }
-    if last < column {
-        return false;
-    }
-    if b == b'[' {
-        return true;
-    }
-    b == b']'
+    let bracket = b == b'[' || b == b']';
+    b < 32 || 126 < b || (bracket && 3 <= column && column <= last)
 }
 
-// The lowest column of a barred byte, or 0.
-fn lowest_barred(line: &[u8], last: usize) -> usize {
-    let mut i = 0;
-    while i < line.len() {
-        if is_barred(line[i], i + 1, last) {
-            return i + 1;
+// Refuses the lowest column of a barred byte.
+fn refuse_barred(line: &[u8], last: usize) -> Result<(), Refused> {
+    for (i, b) in line.iter().enumerate() {
+        if is_barred(*b, i + 1, last) {
+            return Err(Reason::Barred.at(i + 1));
         }
-        i += 1;
     }
-    0
+    Ok(())
 }
 
-// Adds the number of one field to what was read so far.
+// The number in columns `first` to `last`, from `low` to `high`.
 fn field(
-    so_far: Reading,
-    line: &[u8],
-    needed: bool,
-    slot: usize,
+    line: &[u8; 80],
     first: usize,
     last: usize,
     low: i64,
     high: i64,
-) -> Reading
-    requires { (slot < 19) × (1 ≤ first) × (first ≤ last) × (last < first + 8) × (last ≤ length line.now) }
+) -> Result<Option<i64>, Refused>
+    requires { (1 ≤ first) × (first ≤ last) × (last < first + 8) × (last ≤ 80) }
 {
-    if so_far.answer != READ {
-        return so_far;
-    }
-    match read_number(line, first, last) {
-        Number::Bad => refused(FORM, first),
-        Number::Missing => blank_field(so_far, needed, first),
-        Number::Value(n) => filled_field(so_far, slot, first, low, high, n),
+    match read_number(&line[first - 1..last]) {
+        Err(BadForm) => Err(Reason::Form.at(first)),
+        Ok(Some(n)) if n < low || high < n => Err(Reason::Range.at(first)),
+        Ok(number) => Ok(number),
     }
 }
 
-fn blank_field(so_far: Reading, needed: bool, first: usize) -> Reading {
-    if needed {
-        refused(REQUIRED, first)
-    } else {
-        so_far
-    }
-}
-
-fn filled_field(so_far: Reading, slot: usize, first: usize, low: i64, high: i64, n: i64) -> Reading
-    requires { slot < 19 }
+// The same of a number that must be there.
+fn needed(
+    line: &[u8; 80],
+    first: usize,
+    last: usize,
+    low: i64,
+    high: i64,
+) -> Result<Option<i64>, Refused>
+    requires { (1 ≤ first) × (first ≤ last) × (last < first + 8) × (last ≤ 80) }
 {
-    if n < low {
-        return refused(RANGE, first);
+    let number = field(line, first, last, low, high)?;
+    if number.is_none() {
+        return Err(Reason::Required.at(first));
     }
-    if high < n {
-        return refused(RANGE, first);
-    }
-    let mut r = so_far;
-    r.flags[slot] = 1;
-    r.values[slot] = n;
-    r
+    Ok(number)
 }
 
 // A digit's value; a blank and a minus count nothing.
 fn digit(b: u8) -> u8
     ensures { result < 10 }
 {
-    if b < 48 {
-        return 0;
-    }
-    if 57 < b {
-        return 0;
-    }
-    b - 48
-}
-
-// Two digits from place `at` on.
-fn two_digits(line: &[u8], at: usize) -> u8
-    requires { at + 2 ≤ length line.now }
-{
-    digit(line[at]) * 10 + digit(line[at + 1])
+    if b'0' <= b && b <= b'9' { b - b'0' } else { 0 }
 }
 
 // Whether the year in columns 14 to 17 has a 29 February, by its digits: the last two, or the first two where those are 00.
-fn is_long(line: &[u8]) -> bool
-    requires { length line.now ≡ 80 }
-{
-    let years = two_digits(line, 15);
+fn is_long(line: &[u8; 80]) -> bool {
+    let years = digit(line[15]) * 10 + digit(line[16]);
     if years == 0 {
-        return two_digits(line, 13) % 4 == 0;
+        return (digit(line[13]) * 10 + digit(line[14])) % 4 == 0;
     }
     years % 4 == 0
 }
 
-fn choose(test: bool, yes: i64, no: i64) -> i64 {
-    if test {
-        return yes;
-    }
-    no
-}
-
 // How many days the month in columns 18 and 19 has.
-fn month_end(line: &[u8]) -> i64
-    requires { length line.now ≡ 80 }
-{
-    let month = two_digits(line, 17);
+fn month_end(line: &[u8; 80]) -> i64 {
+    let month = digit(line[17]) * 10 + digit(line[18]);
     if month == 2 {
-        return choose(is_long(line), 29, 28);
+        return if is_long(line) { 29 } else { 28 };
     }
     // up to July the odd months are the longer ones, from August on the even ones
-    if month < 8 {
-        return choose(month % 2 == 0, 30, 31);
+    if (month < 8) == (month % 2 == 0) {
+        30
+    } else {
+        31
     }
-    choose(month % 2 == 0, 31, 30)
 }
 
 // Year, month, day, hour, minute, second.
-fn time(r: Reading, line: &[u8]) -> Reading
-    requires { length line.now ≡ 80 }
-{
-    let r = field(r, line, true, 0, 14, 17, -999, 6070);
-    let r = field(r, line, true, 1, 18, 19, 1, 12);
-    let r = field(r, line, true, 2, 20, 21, 1, month_end(line));
-    let r = field(r, line, true, 3, 22, 23, 0, 23);
-    let r = field(r, line, true, 4, 24, 25, 0, 59);
-    field(r, line, true, 5, 26, 28, 0, 599)
+fn time(line: &[u8; 80], numbers: &mut [Option<i64>; 19]) -> Result<(), Refused> {
+    numbers[0] = needed(line, 14, 17, -999, 6070)?;
+    numbers[1] = needed(line, 18, 19, 1, 12)?;
+    numbers[2] = needed(line, 20, 21, 1, month_end(line))?;
+    numbers[3] = needed(line, 22, 23, 0, 23)?;
+    numbers[4] = needed(line, 24, 25, 0, 59)?;
+    numbers[5] = needed(line, 26, 28, 0, 599)?;
+    Ok(())
 }
 
 // Latitude, longitude, depth, magnitude.
-fn place(r: Reading, line: &[u8]) -> Reading
-    requires { length line.now ≡ 80 }
-{
-    let r = field(r, line, true, 6, 29, 35, -900000, 900000);
-    let r = field(r, line, true, 7, 36, 43, -1800000, 1800000);
-    let r = field(r, line, false, 8, 44, 47, -999, 9999);
-    field(r, line, false, 9, 48, 49, -9, 99)
+fn place(line: &[u8; 80], numbers: &mut [Option<i64>; 19]) -> Result<(), Refused> {
+    numbers[6] = needed(line, 29, 35, -900000, 900000)?;
+    numbers[7] = needed(line, 36, 43, -1800000, 1800000)?;
+    numbers[8] = field(line, 44, 47, -999, 9999)?;
+    numbers[9] = field(line, 48, 49, -9, 99)?;
+    Ok(())
 }
 
 // Stations, phases, nearest station, rms. These and what follows are not negative, and may be as large as their columns
 // hold.
-fn readings_used(r: Reading, line: &[u8]) -> Reading
-    requires { length line.now ≡ 80 }
-{
-    let r = field(r, line, false, 10, 50, 52, 0, 999);
-    let r = field(r, line, false, 11, 53, 55, 0, 999);
-    let r = field(r, line, false, 12, 56, 59, 0, 9999);
-    field(r, line, false, 13, 60, 63, 0, 9999)
+fn readings_used(line: &[u8; 80], numbers: &mut [Option<i64>; 19]) -> Result<(), Refused> {
+    numbers[10] = field(line, 50, 52, 0, 999)?;
+    numbers[11] = field(line, 53, 55, 0, 999)?;
+    numbers[12] = field(line, 56, 59, 0, 9999)?;
+    numbers[13] = field(line, 60, 63, 0, 9999)?;
+    Ok(())
 }
 
 // Horizontal and vertical error, gap, magnitude stations, magnitude error.
-fn errors(r: Reading, line: &[u8]) -> Reading
-    requires { length line.now ≡ 80 }
-{
-    let r = field(r, line, false, 14, 64, 67, 0, 9999);
-    let r = field(r, line, false, 15, 68, 71, 0, 9999);
-    let r = field(r, line, false, 16, 72, 73, 0, 99);
-    let r = field(r, line, false, 17, 75, 76, 0, 99);
-    field(r, line, false, 18, 77, 78, 0, 99)
-}
-
-// Copies all bytes into a record's text.
-fn text_of(s: &[u8]) -> [u8; 250]
-    requires { length s.now ≤ 250 }
-{
-    let mut text = [0u8; 250];
-    let mut i = 0;
-    while i < s.len() {
-        text[i] = s[i];
-        i += 1;
-    }
-    text
+fn errors(line: &[u8; 80], numbers: &mut [Option<i64>; 19]) -> Result<(), Refused> {
+    numbers[14] = field(line, 64, 67, 0, 9999)?;
+    numbers[15] = field(line, 68, 71, 0, 9999)?;
+    numbers[16] = field(line, 72, 73, 0, 99)?;
+    numbers[17] = field(line, 75, 76, 0, 99)?;
+    numbers[18] = field(line, 77, 78, 0, 99)?;
+    Ok(())
 }
 
 // The text columns of an event: 3 to 13, 74 and 79.
-fn event_text(line: &[u8]) -> [u8; 250]
-    requires { length line.now ≡ 80 }
-{
-    let mut text = text_of(&line[2..13]);
+fn event_text(line: &[u8; 80]) -> [u8; 13] {
+    let mut text = [0; 13];
+    text[..11].copy_from_slice(&line[2..13]);
     text[11] = line[73];
     text[12] = line[78];
     text
 }
 
-// The fields of an event, left to right.
-fn event_fields(line: &[u8]) -> Reading
-    requires { length line.now ≡ 80 }
-{
-    let empty = refused(READ, 0);
-    let r = place(time(empty, line), line);
-    let r = errors(readings_used(r, line), line);
-    if r.answer != READ {
-        return r;
+fn read_event(line: &[u8]) -> Result<Record<'_>, Refused> {
+    let Ok(line) = <&[u8; 80]>::try_from(line) else {
+        return Err(Reason::Length.at(0));
+    };
+    refuse_barred(&line[..79], 13)?;
+    if line[79] != check_character(&line[..79]) {
+        return Err(Reason::Check.at(80));
     }
-    let text = event_text(line);
-    let mut whole = r;
-    whole.kind = EVENT;
-    whole.text = text;
-    whole
+    let mut numbers = [None; 19];
+    time(line, &mut numbers)?;
+    place(line, &mut numbers)?;
+    readings_used(line, &mut numbers)?;
+    errors(line, &mut numbers)?;
+    Ok(Record::Event {
+        numbers,
+        text: event_text(line),
+    })
 }
 
-fn read_event(line: &[u8]) -> Reading {
-    if line.len() != 80 {
-        return refused(LENGTH, 0);
+fn read_delete(line: &[u8]) -> Result<Record<'_>, Refused> {
+    if line.len() < 13 || 80 < line.len() {
+        return Err(Reason::Length.at(0));
     }
-    let barred = lowest_barred(&line[0..79], 13);
-    if barred != 0 {
-        return refused(BARRED, barred);
+    refuse_barred(line, 13)?;
+    match line[2..].split_first_chunk() {
+        Some((names, text)) => Ok(Record::Delete { names, text }),
+        None => Err(Reason::Length.at(0)),
     }
-    if line[79] != check_character(&line[0..79]) {
-        return refused(CHECK, 80);
-    }
-    event_fields(line)
-}
-
-fn read_delete(line: &[u8]) -> Reading {
-    let len = line.len();
-    if len < 13 {
-        return refused(LENGTH, 0);
-    }
-    if 80 < len {
-        return refused(LENGTH, 0);
-    }
-    let barred = lowest_barred(line, 13);
-    if barred != 0 {
-        return refused(BARRED, barred);
-    }
-    let text = text_of(&line[2..len]);
-    let mut r = refused(READ, 0);
-    r.kind = DELETE;
-    r.length = len - 13;
-    r.text = text;
-    r
 }
 
 // Reads a line of any kind.
-pub fn read_line(line: &[u8]) -> Reading {
+pub fn read_line(line: &[u8]) -> Result<Record<'_>, Refused> {
     if line.len() < 2 {
-        return refused(LENGTH, 0);
+        return Err(Reason::Length.at(0));
     }
-    if line[0] == b'E' {
-        if line[1] == b' ' {
-            return read_event(line);
-        }
-        return refused(TYPE, 1);
+    match (line[0], line[1]) {
+        (b'E', b' ') => read_event(line),
+        (b'D', b'E') => read_delete(line),
+        (b'L', b'I') => read_link(line),
+        _ => Err(Reason::Type.at(1)),
     }
-    if line[0] == b'D' {
-        if line[1] == b'E' {
-            return read_delete(line);
-        }
-        return refused(TYPE, 1);
-    }
-    if line[0] == b'L' {
-        if line[1] == b'I' {
-            return read_link(line);
-        }
-        return refused(TYPE, 1);
-    }
-    refused(TYPE, 1)
 }

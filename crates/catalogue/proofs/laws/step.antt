@@ -7,4 +7,5 @@ pub mod Fair
 pub mod Done
 pub mod Keep
 pub mod Untouched
+pub mod Column
 pub mod Count

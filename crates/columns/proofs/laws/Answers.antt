@@ -7,10 +7,11 @@ use native.Mathlib.Omega.{arith}
 use lib.ListN.{length, drop_of_length-le}
 use lib.Dec.{eqb}
 use borrow.Author.Tests.{ne_eqb, eq-eqb, eqb-true}
-use Rattle.columns.specs.declared.Outcome.{Outcome}
-use Rattle.columns.specs.Answer.{is_ok, pick, Answer, ok, refusal, differs, both, chain}
-use Rattle.columns.specs.Table.{over, outcome_of, Wrote, laid}
-use Rattle.columns.specs.declared.Outcome.TheVariants as O
+use Rattle.std.specs.Prelude.{Ok, Err}
+use Rattle.columns.specs.declared.Reason.{Reason}
+use Rattle.columns.specs.declared.Refusal.{Refusal}
+use Rattle.columns.specs.Answer.{refusal_at, is_ok, pick, Answer, ok, refusal, differs, both, chain}
+use Rattle.columns.specs.Table.{Outcome, over, outcome_of, Wrote, laid}
 
 module _ {A : Type 0} where
   -- ---- an answer in two parts
@@ -44,11 +45,11 @@ module _ {A : Type 0} where
 
   -- ---- a test before an answer: one that must fail, and one that must hold
 
-  pub passed : (b : Bool) (n k : ℕ) (y : Answer A) (c : A) → pick b (refusal n k) y ≡ ok c → (b ≡ false) × (y ≡ ok c)
+  pub passed : (b : Bool) (n : Reason) (k : ℕ) (y : Answer A) (c : A) → pick b (refusal n k) y ≡ ok c → (b ≡ false) × (y ≡ ok c)
   passed true n k y c e = let z : ◌≡◌ {A = ℕ} 0 1 = cc in let y : ⊥ = omega arith in absurd y
   passed false n k y c e = (refl, e)
 
-  pub held : (b : Bool) (n k : ℕ) (y : Answer A) (c : A) → pick b y (refusal n k) ≡ ok c → (b ≡ true) × (y ≡ ok c)
+  pub held : (b : Bool) (n : Reason) (k : ℕ) (y : Answer A) (c : A) → pick b y (refusal n k) ≡ ok c → (b ≡ true) × (y ≡ ok c)
   held false n k y c e = let z : ◌≡◌ {A = ℕ} 0 1 = cc in let y : ⊥ = omega arith in absurd y
   held true n k y c e = (refl, e)
 
@@ -58,21 +59,21 @@ module _ {A : Type 0} where
     pub value : A
     pub is : a ≡ ok value
 
-  pub done_of : (a : Answer A) → O.Done ≡ outcome_of a → Done a
+  pub done_of : (a : Answer A) → (Ok tt) ≡ outcome_of a → Done a
   done_of (ok x) e = record { value = x; is = refl }
   done_of (refusal n k) e = let z : ◌≡◌ {A = ℕ} 0 1 = cc in let y : ⊥ = omega arith in absurd y
 
-  pub ok_done : (a : Answer A) → O.Done ≡ outcome_of a → true ≡ is_ok a
+  pub ok_done : (a : Answer A) → (Ok tt) ≡ outcome_of a → true ≡ is_ok a
   ok_done (ok x) e = refl
   ok_done (refusal n k) e = let z : ◌≡◌ {A = ℕ} 0 1 = cc in let y : ⊥ = omega arith in absurd y
 
-  pub ok_refused : (a : Answer A) (n k : ℕ) → O.Refused n k ≡ outcome_of a → false ≡ is_ok a
-  ok_refused (ok x) n k e = let z : ◌≡◌ {A = ℕ} 0 1 = cc in let y : ⊥ = omega arith in absurd y
-  ok_refused (refusal m j) n k e = refl
+  pub ok_refused : (a : Answer A) (e : Refusal) → Err e ≡ outcome_of a → false ≡ is_ok a
+  ok_refused (ok x) r e = let z : ◌≡◌ {A = ℕ} 0 1 = cc in let y : ⊥ = omega arith in absurd y
+  ok_refused (refusal m j) r e = refl
 
-  pub refused_of : (a : Answer A) (n k : ℕ) → O.Refused n k ≡ outcome_of a → a ≡ refusal n k
-  refused_of (ok x) n k e = let z : ◌≡◌ {A = ℕ} 0 1 = cc in let y : ⊥ = omega arith in absurd y
-  refused_of (refusal m j) n k e = cc
+  pub refused_of : (a : Answer A) (e : Refusal) → Err e ≡ outcome_of a → a ≡ refusal e.reason e.column
+  refused_of (ok x) r e = let z : ◌≡◌ {A = ℕ} 0 1 = cc in let y : ⊥ = omega arith in absurd y
+  refused_of (refusal m j) r e = let z : refusal_at m j ≡ r = cc in rw (← z)
 
 -- ---- two numbers that differ
 
@@ -97,10 +98,10 @@ over_whole xs l e = rw (drop_of_length-le l {i = length xs} (omega arith), appen
 -- ---- a column's bytes
 
 module _ (a : Answer (List ℕ)) (l : List ℕ) where
-  pub wrote_refused : (n k : ℕ) → a ≡ refusal n k → Wrote a (O.Refused n k) l l
+  pub wrote_refused : (n : Reason) (k : ℕ) → a ≡ refusal n k → Wrote a (Err (refusal_at n k)) l l
   wrote_refused n k e = rw e (record { answer = refl; bytes = refl })
 
-  pub wrote_done : (ys to : List ℕ) → a ≡ ok ys → length ys ≡ length l → to ≡ ys → Wrote a O.Done l to
+  pub wrote_done : (ys to : List ℕ) → a ≡ ok ys → length ys ≡ length l → to ≡ ys → Wrote a (Ok tt) l to
   wrote_done ys to e h f = rw e (record { answer = refl; bytes = f ∙ sym (over_whole ys l h) })
 
   pub wrote_as : (b : Answer (List ℕ)) (r : Outcome) (to : List ℕ) → b ≡ a → Wrote b r l to → Wrote a r l to
@@ -110,8 +111,8 @@ module _ {a : Answer (List ℕ)} {r : Outcome} {from to : List ℕ} (w : Wrote a
   pub wrote_bytes : (ys : List ℕ) → a ≡ ok ys → to ≡ over ys from
   wrote_bytes ys e = w.bytes ∙ ap (λ (x : Answer (List ℕ)). laid x from) e
 
-  pub wrote_same : (n k : ℕ) → a ≡ refusal n k → to ≡ from
+  pub wrote_same : (n : Reason) (k : ℕ) → a ≡ refusal n k → to ≡ from
   wrote_same n k e = w.bytes ∙ ap (λ (x : Answer (List ℕ)). laid x from) e
 
-pub wrote_whole : {a : Answer (List ℕ)} {from to ys : List ℕ} → a ≡ ok ys → to ≡ over ys from → Wrote a O.Done from to
+pub wrote_whole : {a : Answer (List ℕ)} {from to ys : List ℕ} → a ≡ ok ys → to ≡ over ys from → Wrote a (Ok tt) from to
 wrote_whole e f = rw e (record { answer = refl; bytes = f })

@@ -10,8 +10,10 @@ use lib.ListN.{length, take, drop, get_or, set, replicate, length-take, length-d
 use lib.Seq.{slice, slice-cons, slice_empty, take-nil, drop-nil, take-take, drop-drop, take-suc, take-suc-set, take-add, drop-cons, take_all, set_at, length-take-le, take-length, get_or-take, get_or-drop}
 use lib.Dec.{eqb, ltb}
 use borrow.Author.Tests.{eq-eqb, ne_eqb, eqb-true, lt-leb, le-leb, ltb-true, ltb-false}
+use Rattle.std.specs.Prelude.{Contains, IsTrue, ◌↔◌, Some, None, is_some}
+use borrow.Author.Tests.{eqb-false}
 use Rattle.columns.specs.Answer.{pick}
-use Rattle.columns.specs.Bytes.{is_text, is_bracket, is_none, trim, all_blank, is_allowed, inside, Plain, Free, barred, member, same_bytes, skip}
+use Rattle.columns.specs.Bytes.{found, is_text, is_bracket, is_none, trim, all_blank, is_allowed, inside, Plain, Free, barred, member, same_bytes, skip}
 
 -- ---- a stretch of a line
 
@@ -38,19 +40,26 @@ slice_drop l a p e = drop-drop p a (take e l)
 
 -- ---- bytes of one code, blanks among them
 
-module _ (x : ℕ) (l : List ℕ) (i to : ℕ) where
-  module _ (h : i < to) (k : to ≤ length l) where
-    pub skip_same : get_or l i 0 ≡ x → skip x (slice i to l) ≡ skip x (slice (i + 1) to l)
-    unfolding skip
-    skip_same e = rw (part_cons l i to h k) (rw (eq-eqb _ _ e))
+-- what is left of a list, from a place on
+pub drop_more : (l : List ℕ) (i : ℕ) → i < length l → drop i l ≡ get_or l i 0 ∷ drop (i + 1) l
+drop_more l i h = rw (add-one, drop-cons l i 0)
 
-    pub skip_other : (get_or l i 0 ≡ x → ⊥) → skip x (slice i to l) ≡ slice i to l
-    unfolding skip
-    skip_other e = rw (part_cons l i to h k) (rw (ne_eqb _ _ e))
+pub drop_end : (l : List ℕ) (i : ℕ) → length l ≤ i → drop i l ≡ []
+drop_end l i h = drop_of_length-le l {i = i} h
 
-  pub skip_none : to ≤ i → i ≤ to → skip x (slice i to l) ≡ slice i to l
+module _ (x : ℕ) (l : List ℕ) (i : ℕ) where
+  module _ (h : i < length l) where
+    pub skip_same : get_or l i 0 ≡ x → skip x (drop i l) ≡ skip x (drop (i + 1) l)
+    unfolding skip
+    skip_same e = rw (drop_more l i h) (rw (eq-eqb _ _ e))
+
+    pub skip_other : (get_or l i 0 ≡ x → ⊥) → skip x (drop i l) ≡ drop i l
+    unfolding skip
+    skip_other e = rw (drop_more l i h) (rw (ne_eqb _ _ e))
+
+  pub skip_none : length l ≤ i → skip x (drop i l) ≡ []
   unfolding skip
-  skip_none h k = rw (part_none l i to h k)
+  skip_none h = rw (drop_end l i h)
 
 pick_short : (t : Bool) (x y : List ℕ) (n : ℕ) → length x ≤ n → length y ≤ n → length (pick t x y) ≤ n
 pick_short true x y n p q = p
@@ -232,33 +241,67 @@ module _ (from to : ℕ) where
       pub part_free : Free from to column (k + w) s
       part_free j m = by_place (ltb j i) j refl m
 
+-- the column, where there is one
+pub found_some : (k : ℕ) → 1 ≤ k → found k ≡ Some k
+found_some k h = rw (ne_eqb k 0 (λ e. omega arith))
+
+found_test : (n : ℕ) (t : Bool) → eqb n 0 ≡ t → is_some (pick t None (Some n)) ≡ true → n ≡ 0 → ⊥
+found_test n true e p q = absurd (false≢true p)
+found_test n false e p q = eqb-false n 0 e q
+
+pub found_there : (n : ℕ) → is_some (found n) ≡ true → n ≡ 0 → ⊥
+found_there n p q = found_test n (eqb n 0) refl p q
+
+none_test : (n : ℕ) (t : Bool) → eqb n 0 ≡ t → is_some (pick t None (Some n)) ≡ false → n ≡ 0
+none_test n true e p = eqb-true n 0 e
+none_test n false e p = absurd (false≢true (sym p))
+
+pub found_none : (n : ℕ) → is_some (found n) ≡ false → n ≡ 0
+found_none n p = none_test n (eqb n 0) refl p
+
+is_test : (n k : ℕ) (t : Bool) → eqb n 0 ≡ t → pick t None (Some n) ≡ Some k → (n ≡ 0 → ⊥) × (n ≡ k)
+is_test n k true e p = let z : ◌≡◌ {A = ℕ} 0 1 = cc in let y : ⊥ = omega arith in absurd y
+is_test n k false e p = (eqb-false n 0 e, cc)
+
+pub found_is : (n k : ℕ) → found n ≡ Some k → (n ≡ 0 → ⊥) × (n ≡ k)
+found_is n k p = is_test n k (eqb n 0) refl p
+
+zero_test : (n : ℕ) (t : Bool) → eqb n 0 ≡ t → pick t None (Some n) ≡ None → n ≡ 0
+zero_test n true e p = eqb-true n 0 e
+zero_test n false e p = let z : ◌≡◌ {A = ℕ} 0 1 = cc in let y : ⊥ = omega arith in absurd y
+
+pub found_zero : (n : ℕ) → found n ≡ None → n ≡ 0
+found_zero n p = zero_test n (eqb n 0) refl p
+
 -- ---- letters of a set
 
-slice_here : (l : List ℕ) (i to : ℕ) → i < to → i < length l → slice i to l ≡ get_or l i 0 ∷ slice (i + 1) to l
-slice_here [] i to h k = let y : ⊥ = omega arith in absurd y
-slice_here (x ∷ l) i zero h k = let y : ⊥ = omega arith in absurd y
-slice_here (x ∷ l) zero (suc to) h k = refl
-slice_here (x ∷ l) (suc i) (suc to) h k = slice_here l i to (omega arith) (omega arith) ∙ rw (add-one, add-one)
+member_next : (b x : ℕ) (s : List ℕ) (t : Bool) → member b s ≡ true → pick t true (member b s) ≡ true
+member_next b x s true e = refl
+member_next b x s false e = e
 
-slice_past : (l : List ℕ) (i to : ℕ) → length l ≤ i → slice i to l ≡ []
-slice_past l i to h = drop_of_length-le (take to l) {i = i} (omega (arith, length-take to l))
+pub member_has : (b : ℕ) (s : List ℕ) → Contains s b → member b s ≡ true
+unfolding member
+member_has b [] (k, h, e) = absurd (omega arith)
+member_has b (x ∷ s) (zero, h, e) = rw (eq-eqb b x (sym e))
+member_has b (x ∷ s) (suc k, h, e) = member_next b x s (eqb b x) (member_has b s (k, omega arith, e))
 
-module _ (l : List ℕ) (b i to : ℕ) where
-  pub member_here : i < to → i < length l → get_or l i 0 ≡ b → member b (slice i to l) ≡ true
-  unfolding member
-  member_here h k e = rw (slice_here l i to h k, eq-eqb b _ (sym e))
+has_next : (b x : ℕ) (s : List ℕ) (t : Bool) → eqb b x ≡ t → (member b s ≡ true → Contains s b) → pick t true (member b s) ≡ true → Contains (x ∷ s) b
+has_next b x s true p r q = (0, omega arith, sym (eqb-true b x p))
+has_next b x s false p r q = let z = r q in (suc z.0, omega arith, z.2)
 
-  pub member_next : i < to → i < length l → (get_or l i 0 ≡ b → ⊥) → member b (slice i to l) ≡ member b (slice (i + 1) to l)
-  unfolding member
-  member_next h k e = rw (slice_here l i to h k, ne_eqb b _ (λ q. e (sym q)))
+pub has_member : (b : ℕ) (s : List ℕ) → member b s ≡ true → Contains s b
+unfolding member
+has_member b [] e = absurd (false≢true e)
+has_member b (x ∷ s) e = has_next b x s (eqb b x) refl (has_member b s) e
 
-  pub member_past : length l ≤ i → member b (slice i to l) ≡ false
-  unfolding member
-  member_past h = rw (slice_past l i to h)
+not_member : (b : ℕ) (s : List ℕ) (u : Bool) → member b s ≡ u → (Contains s b → false ≡ true) → false ≡ u
+not_member b s true e p = p (has_member b s e)
+not_member b s false e p = refl
 
-  pub member_end : i ≤ to → to ≤ i → member b (slice i to l) ≡ false
-  unfolding member
-  member_end h k = let z : i ≡ to = omega arith in rw (z, slice_empty to l)
+-- the test as the code makes it
+pub member_is : (b : ℕ) (s : List ℕ) (t : Bool) → (IsTrue t ↔ Contains s b) → t ≡ member b s
+member_is b s true p = sym (member_has b s (p.0 refl))
+member_is b s false p = not_member b s (member b s) refl p.1
 
 -- ---- equal bytes
 

@@ -9,6 +9,7 @@ use lib.Dec.{eqb, T}
 use lib.IntN.{ℤ}
 use borrow.Author.Tests.{eqb-true}
 use lib.Seq.{take-append-le, drop-append-le, take_at, drop_at, length-take-le}
+use Rattle.columns.specs.declared.Reason.{Reason}
 use Rattle.columns.specs.declared.number.Form.{Form}
 use Rattle.columns.specs.declared.group.Group.{Group}
 use Rattle.columns.specs.Answer.{pick, ok, refusal, barred_byte, required_blank, out_of_range, wrong_letter, too_wide, chain, both, Answer}
@@ -73,7 +74,7 @@ text_passed r at f ys o e =
     let p = passed (rule_refuses r f) (rule_number r) (at + 1) o ys e in
     (p.1, rw p.0)
 
-text_case : (t : Bool) (n k : ℕ) (f : List ℕ) (r : Rec) → as_text (pick t (refusal n k) (ok f)) ≡ ok r → (some_text f ≡ r) × (pick t (refusal n k) (ok f) ≡ ok f)
+text_case : (t : Bool) (n : Reason) (k : ℕ) (f : List ℕ) (r : Rec) → as_text (pick t (refusal n k) (ok f)) ≡ ok r → (some_text f ≡ r) × (pick t (refusal n k) (ok f) ≡ ok f)
 text_case true n k f r e = let z : ◌≡◌ {A = ℕ} 0 1 = cc in let y : ⊥ = omega arith in absurd y
 text_case false n k f r e = (cc, refl)
 

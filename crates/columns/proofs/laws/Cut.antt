@@ -10,9 +10,11 @@ use lib.ListN.{length, take, drop, get_or, replicate, length-drop, length-replic
 use lib.Seq.{slice, length-take-le, take_all, drop-drop, take_at, drop_at, take-append-le, drop-append-le}
 use lib.Dec.{T, eqb, ltb}
 use borrow.Author.Tests.{lt-ltb, le-ltb, ltb-false, eqb-true}
+use Rattle.std.proofs.lemmas.List.{take-append-drop}
 use Rattle.columns.specs.Answer.{pick, Answer, ok, refusal, unless, differs, bad_form, too_short, chain, both}
 use Rattle.columns.specs.Bytes.{is_none, skip, all_blank, member}
-use Rattle.columns.specs.Column.{Slot, missing, given, Rec, joined, Rule, any_text, no_brackets, not_blank_first, not_all_blank, blank_or_filled, rule_bars, Col, numeric, text, letter, group, printed, width, slots, texts, good_col, good, widths, all_slots, all_texts}
+use Rattle.columns.specs.declared.column.Rule.TheVariants as U
+use Rattle.columns.specs.Column.{Slot, missing, given, Rec, joined, Rule, rule_bars, Col, numeric, text, letter, group, printed, width, slots, texts, good_col, good, widths, all_slots, all_texts}
 use Rattle.columns.specs.Reading.{rule_refuses, read_cell, read_columns}
 use Rattle.columns.specs.Writing.{write_cell, write_columns, write_line}
 use Rattle.columns.specs.Table.{flags_of, column_in, col_of, columns_of, slots_by, texts_by, width_by, Table}
@@ -56,11 +58,11 @@ drop_repeated : {A : Type 0} (n m : ℕ) (x : A) → drop n (replicate (n + m) x
 drop_repeated n m x = ap (drop n) (sym (replicate-append-replicate n m x)) ∙ drop_at (replicate n x) (replicate m x) n (length-replicate n x)
 
 blank_ruled : (x : Rule) (w : ℕ) → T (not (fills_text x)) → rule_refuses x (replicate w 32) ≡ false
-blank_ruled any_text w t = refl
-blank_ruled no_brackets w t = refl
-blank_ruled not_blank_first w t = absurd t
-blank_ruled not_all_blank w t = absurd t
-blank_ruled blank_or_filled w t = rw (trim_blanks w) (by_first (eqb (get_or (replicate w 32) 0 0) 32))
+blank_ruled U.AnyText w t = refl
+blank_ruled U.NoBrackets w t = refl
+blank_ruled U.NotBlankFirst w t = absurd t
+blank_ruled U.NotAllBlank w t = absurd t
+blank_ruled U.BlankOrFilled w t = rw (trim_blanks w) (by_first (eqb (get_or (replicate w 32) 0 0) 32))
   where
     by_first : (b : Bool) → pick b false false ≡ false
     by_first true = refl
@@ -243,23 +245,23 @@ pub record Looking (cs : List Col) (start : ℕ) (fs t : List ℕ) (rest : List 
   pub same : first_filled cs start fs t ≡ first_filled rest at (drop k fs) (drop u t)
 
 module _ (fs t : List ℕ) (s : List ℕ) (r : List ℤ) (ls : List ℕ) where
-  pub looking_start : (i n start : ℕ) → Table (columns_of s r ls i n) start 512 0 (length fs) (length fs) 0 (length t) → Looking (columns_of s r ls i n) start fs t (columns_of s r ls i (i + n - i)) start 0 0
-  looking_start i n start p = let z : i + n - i ≡ n = omega arith in rw z (record { ready = p; same = refl })
+  pub looking_start : (cs : List Col) (start : ℕ) → Table cs start 512 0 (length fs) (length fs) 0 (length t) → Looking cs start fs t cs start 0 0
+  looking_start cs start p = record { ready = p; same = refl }
 
-  module _ (cs : List Col) (start i n at k u : ℕ) (g : Looking cs start fs t (columns_of s r ls i (n - i)) at k u) where
-    pub looking_end : n ≤ i → 0 ≡ first_filled cs start fs t
+  module _ (cs : List Col) (start i at k u : ℕ) (g : Looking cs start fs t (columns_of (drop i s) r ls) at k u) where
+    pub looking_end : length s ≤ i → first_filled cs start fs t ≡ 0
     unfolding first_filled
-    looking_end h = sym (g.same ∙ rw (columns_none s r ls i n h))
+    looking_end h = g.same ∙ rw (columns_none s r ls i h)
 
-    module _ (h : i < n) (row : Column) (e : row ≡ column_in (get_or s i 0)) where
+    module _ (h : i < length s) (row : Column) (e : row ≡ column_in (get_or s i 0)) where
       abbrev here : Col
       here = col_of (column_in (get_or s i 0)) r ls
 
       abbrev rest : List Col
-      rest = columns_of s r ls (i + 1) (n - (i + 1))
+      rest = columns_of (drop (i + 1) s) r ls
 
       ready_here : Table (here ∷ rest) at 512 k (length fs) (length fs) u (length t)
-      ready_here = rw (columns_more s r ls i n h) at g.ready
+      ready_here = rw (columns_more s r ls i h) at g.ready
 
       slots_here : (y : ℕ) → y ≡ slots_by row → y ≡ slots here
       slots_here y b = b ∙ ap slots_by e ∙ sym (sizes (column_in (get_or s i 0)) r ls).numbers
@@ -279,14 +281,14 @@ module _ (fs t : List ℕ) (s : List ℕ) (r : List ℤ) (ls : List ℕ) where
       module _ (y x : ℕ) (b : y ≡ slots_by row) (d : x ≡ texts_by row) where
         same_here : first_filled cs start fs t ≡ pick (not_filled (take y (drop k fs)) (take x (drop u t))) (first_filled rest (at + width here) (drop (k + y) fs) (drop (u + x) t)) (at + 1)
         unfolding first_filled
-        same_here = g.same ∙ rw (columns_more s r ls i n h, ← slots_here y b, ← texts_here x d, drop-drop y k fs, drop-drop x u t)
+        same_here = g.same ∙ rw (columns_more s r ls i h, ← slots_here y b, ← texts_here x d, drop-drop y k fs, drop-drop x u t)
 
         module _ (told : Bool) (q : told ≡ not_filled (take (k + y - k) (drop k fs)) (take (u + x - u) (drop u t))) where
           told_here : told ≡ not_filled (take y (drop k fs)) (take x (drop u t))
           told_here = let z : k + y - k ≡ y = omega arith in let v : u + x - u ≡ x = omega arith in rw (z, v) at q
 
-          pub looking_filled : told ≡ false → at + 1 ≡ first_filled cs start fs t
-          looking_filled p = let z : not_filled (take y (drop k fs)) (take x (drop u t)) ≡ false = sym told_here ∙ p in sym (same_here ∙ rw z)
+          pub looking_filled : told ≡ false → first_filled cs start fs t ≡ at + 1
+          looking_filled p = let z : not_filled (take y (drop k fs)) (take x (drop u t)) ≡ false = sym told_here ∙ p in same_here ∙ rw z
 
           pub looking_width : (w : ℕ) → w ≡ width_by row → at + w ≤ 512
           looking_width w f = table_fits ready_here w (f ∙ ap width_by e ∙ sym (sizes (column_in (get_or s i 0)) r ls).wide)
@@ -311,10 +313,10 @@ good_cut (c ∷ cs) bs g =
     (and_T (good_col c) (good cs) p.0 q.0, q.1)
 
 -- the rows of both, one after the other
-pub rows_cut : (s : List ℕ) (r : List ℤ) (ls : List ℕ) (first n more : ℕ) (fs : List ℕ) (told : Bool) → told ≡ whole (columns_of s r ls first (n + more)) fs → told ≡ whole (columns_of s r ls first n ++ columns_of s r ls (first + n) more) fs
-rows_cut s r ls first n more fs told e = e ∙ ap (λ (x : List Col). whole x fs) (columns_append s r ls first n more)
+pub rows_cut : (s : List ℕ) (r : List ℤ) (ls : List ℕ) (n : ℕ) → columns_of s r ls ≡ columns_of (take n s) r ls ++ columns_of (drop n s) r ls
+rows_cut s r ls n = rw (← columns_append (take n s) (drop n s) r ls, take-append-drop n s)
 
-module _ {cs bs : List Col} {past : Past} {next rows width nf nv nt : ℕ} (w : Writable cs bs past next rows width nf nv nt) where
+module _ {cs bs : List Col} {past : Past} {rows width nf nv nt : ℕ} (w : Writable cs bs past rows width nf nv nt) where
   numbers_before : past.numbers ≡ all_slots cs
   numbers_before = ap (λ (x : Past). x.numbers) w.past_is
 

@@ -5,26 +5,25 @@ use mathlib.Core.List.{List, [], ◌∷◌, ◌++◌}
 use Prim.Native.Nat.{ℕ, suc, ◌+◌, ◌-◌, ◌*◌, ◌/◌, ◌^◌, ◌≤◌, ◌<◌}
 use native.Mathlib.Nat.{mul-le-mul_right, pow-suc}
 use native.Mathlib.Omega.{arith}
-use lib.ListN.{length, replicate, length-append, get_or}
+use lib.ListN.{length, drop, replicate, length-append, get_or}
 use lib.Seq.{slice, take_at, drop_at}
 use lib.Dec.{leb, eqb, T, leb→le}
 use lib.IntN.{ℤ, pos}
 use borrow.Author.Tests.{ltb-true, ne_eqb, eq-eqb}
 use Rattle.columns.specs.declared.number.Form.{Form}
-use Rattle.columns.specs.declared.number.Digits.{Digits}
+use Rattle.std.specs.Prelude.{Option, Some, None}
 use Rattle.columns.specs.declared.number.Plain.{Plain}
 use Rattle.columns.specs.Answer.{pick}
 use Rattle.columns.specs.Bytes.{is_digit, skip}
 use Rattle.columns.specs.Number.{digits, number, signed_number, scan, fraction, int_field, dec_field, int_bytes, dec_bytes, digits_of, holds_int, holds_dec, form_width, good_form, field_of, holds, field_bytes, zero_filled, plain_scan, Quick}
 use Rattle.columns.proofs.laws.Clear.{Clear, clear_int, clear_dec, clear_append, clear_mark, clear_digits}
 use Rattle.columns.proofs.laws.Written.{digits_length, power_le}
-use Rattle.columns.proofs.laws.Bytes.{part_none, part_cons}
+use Rattle.columns.proofs.laws.Bytes.{drop_more, drop_end}
 use Rattle.columns.proofs.laws.Number.{digit_bounds}
 use Rattle.columns.proofs.laws.NumberBack.{First, first_digit, digits_scan, digits_split, whole_fits, int_back, int_blank, int_length, dec_back, dec_blank, dec_length}
 use Rattle.columns.proofs.laws.NumberFits.{int_holds, dec_holds}
 use Rattle.columns.proofs.laws.Tests.{T_and}
 use Rattle.columns.specs.declared.number.Form.TheVariants as N
-use Rattle.columns.specs.declared.number.Digits.TheVariants as D
 use Rattle.columns.specs.declared.number.Field.TheVariants as F
 use Rattle.columns.specs.declared.number.Plain.TheVariants as P
 
@@ -155,11 +154,11 @@ number_below : (f : List ℕ) (n : ℕ) → length f ≤ 18 → int_field f ≡ 
 unfolding holds_int
 number_below f n l e = omega (arith, ltb-true n (10 ^ length f) (int_holds f (pos n) e), power_le (length f) l)
 
-plain_case : (t : Bool) (x : Plain) (u : Digits) (m : ℕ) → (x ≡ P.Number m → u ≡ D.Number m) → pick t x P.Other ≡ P.Number m → pick t u D.NoNumber ≡ D.Number m
+plain_case : (t : Bool) (x : Plain) (u : (Option ℕ)) (m : ℕ) → (x ≡ P.Number m → u ≡ Some m) → pick t x P.Other ≡ P.Number m → pick t u None ≡ Some m
 plain_case true x u m f e = f e
 plain_case false x u m f e = let z : ◌≡◌ {A = ℕ} 0 1 = cc in let y : ⊥ = omega arith in absurd y
 
-plain_digits_lem : (n m : ℕ) (s : List ℕ) → plain_scan true n s ≡ P.Number m → digits n s ≡ D.Number m
+plain_digits_lem : (n m : ℕ) (s : List ℕ) → plain_scan true n s ≡ P.Number m → digits n s ≡ Some m
 unfolding plain_scan digits
 plain_digits_lem n m [] e = cc
 plain_digits_lem n m (b ∷ s) e = plain_case (is_digit b) _ _ m (plain_digits_lem (n * 10 + (b - 48)) m s) e
@@ -174,7 +173,7 @@ plain_some n [] e = let z : ◌≡◌ {A = ℕ} 0 1 = cc in omega arith
 plain_some n (b ∷ s) e = some_case (is_digit b) _ (plain_some (n * 10 + (b - 48)) s) e
 
 -- a field that begins with a digit is its number, one that begins with a blank is the rest of it
-digit_field : (b m : ℕ) (s : List ℕ) → is_digit b ≡ true → digits (0 * 10 + (b - 48)) s ≡ D.Number m → int_field (b ∷ s) ≡ F.Value (pos m)
+digit_field : (b m : ℕ) (s : List ℕ) → is_digit b ≡ true → digits (0 * 10 + (b - 48)) s ≡ Some m → int_field (b ∷ s) ≡ F.Value (pos m)
 unfolding int_field scan skip signed_number number digits
 digit_field b m s t e =
     let p = digit_bounds b t in
@@ -208,26 +207,26 @@ plain_quick (b ∷ s) l = walk_case b s (is_digit b) (omega arith) refl (plain_q
 
 -- ---- the walk, as the code comes to it
 
-module _ (l : List ℕ) (i to : ℕ) (any : Bool) (n : ℕ) (h : i < to) (k : to ≤ length l) where
-  pub walk_digit_on : is_digit (get_or l i 0) ≡ true → plain_scan any n (slice i to l) ≡ plain_scan true (n * 10 + (get_or l i 0 - 48)) (slice (i + 1) to l)
+module _ (l : List ℕ) (i : ℕ) (any : Bool) (n : ℕ) (h : i < length l) where
+  pub walk_digit_on : is_digit (get_or l i 0) ≡ true → plain_scan any n (drop i l) ≡ plain_scan true (n * 10 + (get_or l i 0 - 48)) (drop (i + 1) l)
   unfolding plain_scan
-  walk_digit_on e = rw (part_cons l i to h k, e)
+  walk_digit_on e = rw (drop_more l i h, e)
 
-  pub walk_stop : is_digit (get_or l i 0) ≡ false → any ≡ true → plain_scan any n (slice i to l) ≡ P.Other
+  pub walk_stop : is_digit (get_or l i 0) ≡ false → any ≡ true → plain_scan any n (drop i l) ≡ P.Other
   unfolding plain_scan
-  walk_stop e f = rw (part_cons l i to h k, e, f)
+  walk_stop e f = rw (drop_more l i h, e, f)
 
-  pub walk_blank_on : is_digit (get_or l i 0) ≡ false → any ≡ false → get_or l i 0 ≡ 32 → plain_scan any n (slice i to l) ≡ plain_scan any n (slice (i + 1) to l)
+  pub walk_blank_on : is_digit (get_or l i 0) ≡ false → any ≡ false → get_or l i 0 ≡ 32 → plain_scan any n (drop i l) ≡ plain_scan any n (drop (i + 1) l)
   unfolding plain_scan
-  walk_blank_on e f b = rw (part_cons l i to h k, e, f, eq-eqb (get_or l i 0) 32 b)
+  walk_blank_on e f b = rw (drop_more l i h, e, f, eq-eqb (get_or l i 0) 32 b)
 
-  pub walk_other : is_digit (get_or l i 0) ≡ false → any ≡ false → (get_or l i 0 ≡ 32 → ⊥) → plain_scan any n (slice i to l) ≡ P.Other
+  pub walk_other : is_digit (get_or l i 0) ≡ false → any ≡ false → (get_or l i 0 ≡ 32 → ⊥) → plain_scan any n (drop i l) ≡ P.Other
   unfolding plain_scan
-  walk_other e f b = rw (part_cons l i to h k, e, f, ne_eqb (get_or l i 0) 32 b)
+  walk_other e f b = rw (drop_more l i h, e, f, ne_eqb (get_or l i 0) 32 b)
 
-pub plain_end : (l : List ℕ) (i to n : ℕ) (any : Bool) → to ≤ i → i ≤ to → plain_scan any n (slice i to l) ≡ pick any (P.Number n) P.Blank
+pub plain_end : (l : List ℕ) (i n : ℕ) (any : Bool) → length l ≤ i → plain_scan any n (drop i l) ≡ pick any (P.Number n) P.Blank
 unfolding plain_scan
-plain_end l i to n any h k = rw (part_none l i to h k)
+plain_end l i n any h = rw (drop_end l i h)
 
 -- the number with one digit more still has room for the bytes left
 pub walk_room : (n r i to m : ℕ) → i < to → r < n * 10 + 10 → (n + 1) * 10 ^ (to - i) ≤ m → (r + 1) * 10 ^ (to - (i + 1)) ≤ m

@@ -9,6 +9,7 @@ use lib.Seq.{slice, drop-drop}
 use lib.Dec.{T, eqb}
 use lib.IntN.{ℤ}
 use borrow.Author.Tests.{eqb-true, eqb-false}
+use Rattle.columns.specs.declared.Reason.{Reason}
 use Rattle.columns.specs.declared.number.Field.{Field}
 use Rattle.columns.specs.declared.number.Form.{Form}
 use Rattle.columns.specs.declared.column.Column.{Column}
@@ -18,7 +19,7 @@ use Rattle.columns.specs.Column.{Slot, missing, given, slot_in, Rec, joined, las
 use Rattle.columns.specs.Reading.{one_number, judge, rule_refuses, rule_number, judge_text, as_text, read_cell, read_columns}
 use Rattle.columns.specs.Table.{column_in, range_at, col_of, rule_at, columns_of}
 use Rattle.columns.specs.Judge.{simple_col, looks_back, is_day, date_to, simple, last_day_before, Judged, Judgeable}
-use Rattle.columns.proofs.laws.Table.{columns_more, columns_none, col_integer, col_decimal, col_text, col_letter, col_group, col_printed}
+use Rattle.columns.proofs.laws.Table.{columns_more, columns_none}
 use Rattle.columns.proofs.laws.Bytes.{slice_is}
 use Rattle.columns.proofs.laws.Tests.{T_and, T_true, both_true}
 use Rattle.columns.proofs.laws.Form.{form_integer}
@@ -29,11 +30,11 @@ use Rattle.columns.specs.declared.number.Form.TheVariants as N
 
 -- ---- one column
 
-pub ok_pick : {A : Type 0} (t : Bool) (x : A) (n k : ℕ) → t ≡ is_ok (pick t (ok x) (refusal n k))
+pub ok_pick : {A : Type 0} (t : Bool) (x : A) (n : Reason) (k : ℕ) → t ≡ is_ok (pick t (ok x) (refusal n k))
 ok_pick true x n k = refl
 ok_pick false x n k = refl
 
-pub ok_unless : {A : Type 0} (t : Bool) (x : A) (n k : ℕ) → not t ≡ is_ok (pick t (refusal n k) (ok x))
+pub ok_unless : {A : Type 0} (t : Bool) (x : A) (n : Reason) (k : ℕ) → not t ≡ is_ok (pick t (refusal n k) (ok x))
 ok_unless true x n k = refl
 ok_unless false x n k = refl
 
@@ -45,58 +46,19 @@ pub number_judged : (c : Col) (m : Form) (q : Bool) (g : Range) (f : List ℕ) (
 unfolding read_cell
 number_judged c m q g f d x r e p j = record { accepted = λ seen at h. rw (e, ← p) (j seen at (λ t. h (rw e t))) }
 
-text_pick : (t : Bool) (n k m j : ℕ) (f : List ℕ) → is_ok (pick t (refusal n k) (ok f)) ≡ is_ok (as_text (pick t (refusal m j) (ok f)))
-text_pick true n k m j f = refl
-text_pick false n k m j f = refl
+text_pick : (t : Bool) (n : Reason) (k j : ℕ) (f : List ℕ) → is_ok (pick t (refusal n k) (ok f)) ≡ is_ok (as_text (pick t (refusal n j) (ok f)))
+text_pick true n k j f = refl
+text_pick false n k j f = refl
 
 text_case : (u : Rule) (at k : ℕ) (f : List ℕ) → is_ok (judge_text u at f (ok f)) ≡ is_ok (as_text (judge_text u k f (ok f)))
-text_case u at k f = text_pick (rule_refuses u f) _ _ _ _ f
+text_case u at k f = text_pick (rule_refuses u f) (rule_number u) _ _ f
 
 pub text_judged : (c : Col) (w : ℕ) (u : Rule) (at : ℕ) (f : List ℕ) (d : ℕ) (r : Bool) → c ≡ text w u → r ≡ is_ok (judge_text u at f (ok f)) → Judged c f d r
 unfolding read_cell
 text_judged c w u at f d r e j = record { accepted = λ seen k h. rw e (j ∙ text_case u at k f) }
 
--- a rule by its number
-pub any_rule : (k at : ℕ) (f : List ℕ) → k < 2 → true ≡ is_ok (judge_text (rule_at k) at f (ok f))
-any_rule zero at f h = refl
-any_rule (suc zero) at f h = refl
-any_rule (suc (suc k)) at f h = let y : ⊥ = omega arith in absurd y
-
-pub told_rule : (k at : ℕ) (f : List ℕ) (t : Bool) → t ≡ rule_refuses (rule_at k) f → not t ≡ is_ok (judge_text (rule_at k) at f (ok f))
-told_rule k at f t e = rw e (ok_unless (rule_refuses (rule_at k) f) f (rule_number (rule_at k)) (at + 1))
-
--- the kind of an integer is 0, that of a text 2
-module _ (c : Column) (rs : List ℤ) (ls : List ℕ) (s : T (simple_col (col_of c rs ls))) (n : c.kind ≡ 0 → ⊥) where
-  no_decimal : c.kind ≡ 1 → ⊥
-  no_decimal e = rw (col_decimal c rs ls e) at s
-
-  no_letter : c.kind ≡ 3 → ⊥
-  no_letter e = rw (col_letter c rs ls e) at s
-
-  no_group : c.kind ≡ 4 → ⊥
-  no_group e = rw (col_group c rs ls e) at s
-
-  no_printed : 5 ≤ c.kind → ⊥
-  no_printed e = rw (col_printed c rs ls e) at s
-
-  above : (k m : ℕ) → m ≤ k → (k ≡ m → ⊥) → m + 1 ≤ k
-  above k m h d = omega arith
-
-  by_kind : (t : Bool) → eqb c.kind 2 ≡ t → c.kind ≡ 2
-  by_kind true e = eqb-true _ _ e
-  by_kind false e =
-      absurd (no_printed (above _ 4 (above _ 3 (above _ 2 (above _ 1 (above _ 0 (omega arith) n) no_decimal) (eqb-false _ _ e)) no_letter) no_group))
-
-  pub simple_text : col_of c rs ls ≡ text c.width (rule_at c.last)
-  simple_text = col_text c rs ls (by_kind _ refl)
-
--- the columns that one takes are its row's
-width_case : (c : Column) (rs : List ℤ) (ls : List ℕ) → T (simple_col (col_of c rs ls)) → (t : Bool) → eqb c.kind 0 ≡ t → c.width ≡ width (col_of c rs ls)
-width_case c rs ls s true e = rw (col_integer c rs ls (eqb-true _ _ e))
-width_case c rs ls s false e = rw (simple_text c rs ls s (eqb-false _ _ e))
-
-pub simple_width : (c : Column) (rs : List ℤ) (ls : List ℕ) → T (simple_col (col_of c rs ls)) → c.width ≡ width (col_of c rs ls)
-simple_width c rs ls s = width_case c rs ls s _ refl
+pub told_rule : (x : Rule) (at : ℕ) (f : List ℕ) (t : Bool) → t ≡ rule_refuses x f → not t ≡ is_ok (judge_text x at f (ok f))
+told_rule x at f t e = rw e (ok_unless (rule_refuses x f) f (rule_number x) (at + 1))
 
 -- each month has 28 days
 pub before_least : (line : List ℕ) (at : ℕ) → 28 ≤ last_day_before line at
@@ -258,8 +220,8 @@ module _ {cs : List Col} {start : ℕ} {line : List ℕ} {c : Col} {rest : List 
             }
 
 -- the next row of the table
-pub left_row : (s : List ℕ) (r : List ℤ) (ls : List ℕ) (i n : ℕ) (row : Column) {cs : List Col} {start : ℕ} {line : List ℕ} {at : ℕ} → i < n → row ≡ column_in (get_or s i 0) → Left cs start line (columns_of s r ls i (n - i)) at → Left cs start line (col_of row r ls ∷ columns_of s r ls (i + 1) (n - (i + 1))) at
-left_row s r ls i n row h e g = rw (e, ← columns_more s r ls i n h) g
+pub left_row : (s : List ℕ) (r : List ℤ) (ls : List ℕ) (i : ℕ) (row : Column) {cs : List Col} {start : ℕ} {line : List ℕ} {at : ℕ} → i < length s → row ≡ column_in (get_or s i 0) → Left cs start line (columns_of (drop i s) r ls) at → Left cs start line (col_of row r ls ∷ columns_of (drop (i + 1) s) r ls) at
+left_row s r ls i row h e g = rw (e, ← columns_more s r ls i h) g
 
-pub left_last : (s : List ℕ) (r : List ℤ) (ls : List ℕ) (i n : ℕ) {cs : List Col} {start : ℕ} {line : List ℕ} {at : ℕ} → n ≤ i → Left cs start line (columns_of s r ls i (n - i)) at → Left cs start line [] at
-left_last s r ls i n h g = rw (← columns_none s r ls i n h) g
+pub left_last : (s : List ℕ) (r : List ℤ) (ls : List ℕ) (i : ℕ) {cs : List Col} {start : ℕ} {line : List ℕ} {at : ℕ} → length s ≤ i → Left cs start line (columns_of (drop i s) r ls) at → Left cs start line [] at
+left_last s r ls i h g = rw (← columns_none s r ls i h) g

@@ -5,7 +5,7 @@ use mathlib.Core.List.{List, [], ◌∷◌}
 use Prim.Native.Nat.{ℕ, zero, suc, ◌+◌, ◌-◌, ◌*◌, ◌^◌, ◌≤◌, ◌<◌}
 use native.Mathlib.Nat.{pow-suc, pow-zero, mul_assoc, mul_comm, mul-le-mul_right, le-mul_of_pos_right, pow-le-pow_right}
 use native.Mathlib.Omega.{arith}
-use lib.ListN.{length, get_or}
+use lib.ListN.{length, take, drop, length-take, length-drop, get_or}
 use lib.Seq.{slice, length-slice}
 use lib.Pow.{pow-add}
 use lib.Dec.{leb, eqb, lit<}
@@ -18,27 +18,27 @@ use borrow.Author.Tests.{eq-eqb, ne_eqb, leb-true}
 use Rattle.columns.specs.Answer.{pick}
 use Rattle.columns.specs.Bytes.{is_digit, is_none, trim}
 use Rattle.columns.specs.Number.{digits, number, scan, fraction, magnitude, with_sign, signed_number, value, int_field, dec_field}
-use Rattle.columns.proofs.laws.Bytes.{part_cons, part_none, slice_take, slice_drop, skip_short}
-use Rattle.columns.specs.declared.number.Digits.{Digits}
+use Rattle.columns.proofs.laws.Bytes.{drop_more, drop_end, slice_take, slice_drop, skip_short}
+use Rattle.std.specs.Prelude.{Option, Some, None}
 use Rattle.columns.specs.declared.number.Scan.{Scan}
 use Rattle.columns.proofs.laws.Tests.{both_true}
-use Rattle.columns.specs.declared.number.Digits.TheVariants as D
 use Rattle.columns.specs.declared.number.Scan.TheVariants as S
 
 -- ---- one more digit
 
-module _ (l : List ℕ) (i to : ℕ) (h : i < to) (k : to ≤ length l) where
-  pub digits_step : (n : ℕ) → is_digit (get_or l i 0) ≡ true → digits n (slice i to l) ≡ digits (n * 10 + (get_or l i 0 - 48)) (slice (i + 1) to l)
-  unfolding digits
-  digits_step n e = rw (part_cons l i to h k) (rw e)
+module _ (l : List ℕ) (i : ℕ) where
+  module _ (h : i < length l) where
+    pub digits_step : (n : ℕ) → is_digit (get_or l i 0) ≡ true → digits n (drop i l) ≡ digits (n * 10 + (get_or l i 0 - 48)) (drop (i + 1) l)
+    unfolding digits
+    digits_step n e = rw (drop_more l i h) (rw e)
 
-  pub digits_other : (n : ℕ) → is_digit (get_or l i 0) ≡ false → digits n (slice i to l) ≡ D.NoNumber
-  unfolding digits
-  digits_other n e = rw (part_cons l i to h k) (rw e)
+    pub digits_other : (n : ℕ) → is_digit (get_or l i 0) ≡ false → digits n (drop i l) ≡ None
+    unfolding digits
+    digits_other n e = rw (drop_more l i h) (rw e)
 
-pub digits_none : (l : List ℕ) (i to n : ℕ) → to ≤ i → i ≤ to → digits n (slice i to l) ≡ D.Number n
-unfolding digits
-digits_none l i to n h k = rw (part_none l i to h k)
+  pub digits_none : (n : ℕ) → length l ≤ i → digits n (drop i l) ≡ Some n
+  unfolding digits
+  digits_none n h = rw (drop_end l i h)
 
 -- room for one more digit
 pub room : (n d k m : ℕ) → d < 10 → (n + 1) * 10 ^ suc k ≤ m → (n * 10 + d + 1) * 10 ^ k ≤ m
@@ -77,11 +77,11 @@ pub digit_bounds : (b : ℕ) → is_digit b ≡ true → (48 ≤ b) × (b ≤ 57
 digit_bounds b e = let p = both_true (leb 48 b) (leb b 57) e in (leb-true 48 b p.0, leb-true b 57 p.1)
 
 module _ (m : ℕ) where
-  step_bound : (b n : ℕ) (s : List ℕ) (x : ℕ) (t : Bool) → is_digit b ≡ t → ((n' : ℕ) → (n' + 1) * 10 ^ length s ≤ m → digits n' s ≡ D.Number x → x < m) → (n + 1) * 10 ^ suc (length s) ≤ m → pick t (digits (n * 10 + (b - 48)) s) D.NoNumber ≡ D.Number x → x < m
+  step_bound : (b n : ℕ) (s : List ℕ) (x : ℕ) (t : Bool) → is_digit b ≡ t → ((n' : ℕ) → (n' + 1) * 10 ^ length s ≤ m → digits n' s ≡ Some x → x < m) → (n + 1) * 10 ^ suc (length s) ≤ m → pick t (digits (n * 10 + (b - 48)) s) None ≡ Some x → x < m
   step_bound b n s x true e ih r q = ih (n * 10 + (b - 48)) (room n (b - 48) (length s) m (omega (arith, (digit_bounds b e).1)) r) q
   step_bound b n s x false e ih r q = let z : ◌≡◌ {A = ℕ} 0 1 = cc in omega arith
 
-  pub digits_bound : (n : ℕ) (s : List ℕ) (x : ℕ) → (n + 1) * 10 ^ length s ≤ m → digits n s ≡ D.Number x → x < m
+  pub digits_bound : (n : ℕ) (s : List ℕ) (x : ℕ) → (n + 1) * 10 ^ length s ≤ m → digits n s ≡ Some x → x < m
   unfolding digits
   digits_bound n [] x r q = let e : n ≡ x = cc in omega (arith, room_le n 0 m r)
   digits_bound n (b ∷ s) x r q = step_bound b n s x (is_digit b) refl (λ n'. digits_bound n' s x) r q
@@ -89,52 +89,51 @@ module _ (m : ℕ) where
 pub one_room : (k : ℕ) → k ≤ 18 → (0 + 1) * 10 ^ k ≤ 10 ^ 18
 one_room k h = omega (arith, pow-le-pow_right {n = 10} (lit< tt) {i = k} {j = 18} h)
 
-module _ (l : List ℕ) (from to : ℕ) (h : from < to) (k : to ≤ length l) where
-  pub number_part : number (slice from to l) ≡ digits 0 (slice from to l)
-  unfolding number
-  number_part = rw (part_cons l from to h k)
-
-pub number_none : (l : List ℕ) (from to : ℕ) → from ≡ to → number (slice from to l) ≡ D.NoNumber
+pub number_part : (s : List ℕ) → 1 ≤ length s → number s ≡ digits 0 s
 unfolding number
-number_none l from to e = rw (part_none l from to (omega arith) (omega arith))
+number_part [] h = absurd (omega arith)
+number_part (b ∷ s) h = refl
 
-pub number_bound : (l : List ℕ) (from to x : ℕ) → to ≤ length l → to - from ≤ 18 → digits 0 (slice from to l) ≡ D.Number x → x < 10 ^ 18
-number_bound l from to x h k q =
-    digits_bound (10 ^ 18) 0 (slice from to l) x (one_room (length (slice from to l)) (omega (arith, length-slice from to l h))) q
+pub number_none : (s : List ℕ) → length s ≡ 0 → number s ≡ None
+unfolding number
+number_none [] h = refl
+number_none (b ∷ s) h = absurd (omega arith)
 
--- the field after its blanks
-module _ (l : List ℕ) (from start to : ℕ) (t : trim (slice from to l) ≡ slice start to l) where
-  pub scan_none : start ≡ to → scan (slice from to l) ≡ S.Blank
-  unfolding scan signed_number
-  scan_none e = rw (t, part_none l start to (omega arith) (omega arith))
+pub number_bound : (s : List ℕ) (x : ℕ) → length s ≤ 18 → digits 0 s ≡ Some x → x < 10 ^ 18
+number_bound s x h q = digits_bound (10 ^ 18) 0 s x (one_room (length s) h) q
 
-  pub scan_minus : start < to → to ≤ length l → get_or l start 0 ≡ 45 → scan (slice from to l) ≡ with_sign true (number (slice (start + 1) to l))
-  unfolding scan signed_number
-  scan_minus h k e = rw (t, part_cons l start to h k) (rw (eq-eqb _ _ e))
+-- what is left after the blanks
+pub signed_none : (s : List ℕ) → length s ≡ 0 → signed_number s ≡ S.Blank
+unfolding signed_number
+signed_none [] e = refl
+signed_none (b ∷ s) e = absurd (omega arith)
 
-  pub scan_plain : start < to → to ≤ length l → (get_or l start 0 ≡ 45 → ⊥) → scan (slice from to l) ≡ with_sign false (number (slice start to l))
-  unfolding scan signed_number
-  scan_plain h k e = rw (t, part_cons l start to h k) (rw (ne_eqb _ _ e))
+pub signed_minus : (s t : List ℕ) (b : ℕ) → s ≡ b ∷ t → b ≡ 45 → signed_number s ≡ with_sign true (number t)
+unfolding signed_number
+signed_minus s t b e q = rw (e, eq-eqb b 45 q)
+
+pub signed_plain : (s t : List ℕ) (b : ℕ) → s ≡ b ∷ t → (b ≡ 45 → ⊥) → signed_number s ≡ with_sign false (number s)
+unfolding signed_number
+signed_plain s t b e q = rw (e, ne_eqb b 45 q)
 
 -- ---- the fraction
 
-module _ (l : List ℕ) (from start to : ℕ) (t : trim (slice from to l) ≡ slice start to l) where
-  pub fraction_blank : start ≡ to → fraction S.Blank (slice from to l) ≡ S.Blank
+module _ (s : List ℕ) (m : Bool) (n : ℕ) where
+  pub fraction_point : 1 ≤ length s → get_or s 0 0 ≡ 46 → fraction (S.Number m n) s ≡ with_sign m (digits n (drop 1 s))
   unfolding fraction
-  fraction_blank e = rw (t, part_none l start to (omega arith) (omega arith))
+  fraction_point h e = by_bytes s h e
+    where
+      by_bytes : (f : List ℕ) → 1 ≤ length f → get_or f 0 0 ≡ 46 → fraction (S.Number m n) f ≡ with_sign m (digits n (drop 1 f))
+      by_bytes [] k q = absurd (omega arith)
+      by_bytes (b ∷ f) k q = rw (eq-eqb b 46 q)
 
-  pub fraction_other : start < to → to ≤ length l → fraction S.Blank (slice from to l) ≡ S.Malformed
+  pub fraction_no_point : (get_or s 0 0 ≡ 46 → ⊥) → fraction (S.Number m n) s ≡ S.Malformed
   unfolding fraction
-  fraction_other h k = rw (t, part_cons l start to h k)
-
-module _ (l : List ℕ) (from to : ℕ) (h : from < to) (k : to ≤ length l) (m : Bool) (n : ℕ) where
-  pub fraction_point : get_or l from 0 ≡ 46 → fraction (S.Number m n) (slice from to l) ≡ with_sign m (digits n (slice (from + 1) to l))
-  unfolding fraction
-  fraction_point e = rw (part_cons l from to h k) (rw (eq-eqb _ _ e))
-
-  pub fraction_no_point : (get_or l from 0 ≡ 46 → ⊥) → fraction (S.Number m n) (slice from to l) ≡ S.Malformed
-  unfolding fraction
-  fraction_no_point e = rw (part_cons l from to h k) (rw (ne_eqb _ _ e))
+  fraction_no_point e = by_bytes s e
+    where
+      by_bytes : (f : List ℕ) → (get_or f 0 0 ≡ 46 → ⊥) → fraction (S.Number m n) f ≡ S.Malformed
+      by_bytes [] q = refl
+      by_bytes (b ∷ f) q = rw (ne_eqb b 46 q)
 
 pub fraction_malformed : (s : List ℕ) → fraction S.Malformed s ≡ S.Malformed
 unfolding fraction
@@ -142,9 +141,9 @@ fraction_malformed s = refl
 
 -- ---- magnitudes
 
-with_sign_below : (m : Bool) (d : Digits) (x : ℕ) → ((n : ℕ) → d ≡ D.Number n → n < x) → 0 < x → magnitude (with_sign m d) < x
-with_sign_below m (D.Number n) x f p = f n refl
-with_sign_below m D.NoNumber x f p = p
+with_sign_below : (m : Bool) (d : (Option ℕ)) (x : ℕ) → ((n : ℕ) → d ≡ Some n → n < x) → 0 < x → magnitude (with_sign m d) < x
+with_sign_below m (Some n) x f p = f n refl
+with_sign_below m None x f p = p
 
 digits_below : (b : Bool) (n : ℕ) (s : List ℕ) (m : ℕ) → (n + 1) * 10 ^ length s ≤ m → magnitude (with_sign b (digits n s)) < m
 digits_below b n s m r = with_sign_below b (digits n s) m (λ x q. digits_bound m n s x r q) (omega (arith, room_le n (length s) m r))
@@ -178,26 +177,21 @@ fraction_below (S.Number b n) (x ∷ s) m r =
 
 -- ---- a field in two parts
 
-module _ (l : List ℕ) (at w d : ℕ) (h : at + w ≤ length l) (k : d < w) where
-  pub dec_parts : dec_field d (slice at (at + w) l) ≡ value (fraction (scan (slice at (at + w - (d + 1)) l)) (slice (at + w - (d + 1)) (at + w) l))
+module _ (f : List ℕ) (d : ℕ) (h : d < length f) where
+  pub dec_parts : dec_field d f ≡ value (fraction (scan (take (length f - (d + 1)) f)) (drop (length f - (d + 1)) f))
   unfolding dec_field
-  dec_parts =
-      let e : length (slice at (at + w) l) - (d + 1) ≡ w - (d + 1) = omega (arith, length-slice at (at + w) l h) in
-      let g : at + (w - (d + 1)) ≡ at + w - (d + 1) = omega arith in
-      rw (e, slice_take l at (w - (d + 1)) (at + w) (omega arith), slice_drop, g)
+  dec_parts = refl
 
-  pub dec_room : w ≤ 18 → (magnitude (scan (slice at (at + w - (d + 1)) l)) + 1) * 10 ^ (at + w - (at + w - (d + 1) + 1)) ≤ 10 ^ 18
+  pub dec_room : length f ≤ 18 → (magnitude (scan (take (length f - (d + 1)) f)) + 1) * 10 ^ (length (drop (length f - (d + 1)) f) - 1) ≤ 10 ^ 18
   dec_room x =
-      let p : ℕ = w - (d + 1) in
-      let e : at + w - (at + w - (d + 1) + 1) ≡ d = omega arith in
-      let a : magnitude (scan (slice at (at + w - (d + 1)) l)) < 10 ^ p = scan_below (slice at (at + w - (d + 1)) l) p (omega (arith, length-slice at (at + w - (d + 1)) l (omega arith))) in
-      let b : (magnitude (scan (slice at (at + w - (d + 1)) l)) + 1) * 10 ^ d ≤ 10 ^ p * 10 ^ d = mul-le-mul_right (10 ^ d) (omega arith) in
+      let p : ℕ = length f - (d + 1) in
+      let e : length (drop (length f - (d + 1)) f) - 1 ≡ d = omega (arith, length-drop (length f - (d + 1)) f) in
+      let a : magnitude (scan (take (length f - (d + 1)) f)) < 10 ^ p = scan_below (take (length f - (d + 1)) f) p (omega (arith, length-take (length f - (d + 1)) f)) in
+      let b : (magnitude (scan (take (length f - (d + 1)) f)) + 1) * 10 ^ d ≤ 10 ^ p * 10 ^ d = mul-le-mul_right (10 ^ d) (omega arith) in
       rw e (omega (arith, b, pow-add 10 p d, pow-le-pow_right {n = 10} (lit< tt) {i = p + d} {j = 18} (omega arith)))
 
-  pub dec_below : w ≤ 18 → magnitude (fraction (scan (slice at (at + w - (d + 1)) l)) (slice (at + w - (d + 1)) (at + w) l)) < 10 ^ 18
-  dec_below x =
-      let e : length (slice (at + w - (d + 1)) (at + w) l) - 1 ≡ at + w - (at + w - (d + 1) + 1) = omega (arith, length-slice (at + w - (d + 1)) (at + w) l h) in
-      fraction_below _ _ _ (rw e (dec_room x))
+  pub dec_below : length f ≤ 18 → magnitude (fraction (scan (take (length f - (d + 1)) f)) (drop (length f - (d + 1)) f)) < 10 ^ 18
+  dec_below x = fraction_below _ _ _ (dec_room x)
 
 pub int_is : (f : List ℕ) → int_field f ≡ value (scan f)
 unfolding int_field

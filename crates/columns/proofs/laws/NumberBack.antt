@@ -12,28 +12,27 @@ use lib.Pow.{pow-add}
 use lib.Dec.{leb}
 use lib.IntN.{ℤ, pos, negsuc, nat_abs}
 use borrow.Author.Tests.{ne_eqb, le-leb, ltb-true, leb-true, leb-false, le-ltb}
-use Rattle.columns.specs.declared.number.Digits.{Digits}
+use Rattle.std.specs.Prelude.{Option, Some, None}
 use Rattle.columns.specs.declared.written.Pen.{Pen}
 use Rattle.columns.specs.Answer.{pick}
 use Rattle.columns.specs.Bytes.{is_digit, trim, skip}
 use Rattle.columns.specs.Number.{digits, number, signed_number, scan, fraction, signed, value, with_sign, int_field, dec_field, digits_of, plain_digits, minus_of, right_aligned, is_neg, int_bytes, holds_int, holds_dec, dec_bytes, back}
 use Rattle.columns.proofs.laws.Written.{power_pos, digits_length, back_length}
 use Rattle.columns.specs.declared.number.Scan.TheVariants as S
-use Rattle.columns.specs.declared.number.Digits.TheVariants as D
 use Rattle.columns.specs.declared.number.Field.TheVariants as F
 
 -- ---- digits
 
-pick_append : (x : Bool) (u v d : Digits) (m : ℕ) → (u ≡ D.Number m → v ≡ d) → pick x u D.NoNumber ≡ D.Number m → pick x v D.NoNumber ≡ d
+pick_append : (x : Bool) (u v d : (Option ℕ)) (m : ℕ) → (u ≡ Some m → v ≡ d) → pick x u None ≡ Some m → pick x v None ≡ d
 pick_append true u v d m f q = f q
 pick_append false u v d m f q = let z : ◌≡◌ {A = ℕ} 0 1 = cc in let y : ⊥ = omega arith in absurd y
 
-digits_append : (n m : ℕ) (s t : List ℕ) → digits n s ≡ D.Number m → digits n (s ++ t) ≡ digits m t
+digits_append : (n m : ℕ) (s t : List ℕ) → digits n s ≡ Some m → digits n (s ++ t) ≡ digits m t
 unfolding digits
 digits_append n m [] t e = let q : n ≡ m = cc in rw q
 digits_append n m (b ∷ s) t e = pick_append (is_digit b) _ _ _ m (digits_append (n * 10 + (b - 48)) m s t) e
 
-digit_byte : (m k : ℕ) → k < 10 → digits m ((48 + k) ∷ []) ≡ D.Number (m * 10 + k)
+digit_byte : (m k : ℕ) → k < 10 → digits m ((48 + k) ∷ []) ≡ Some (m * 10 + k)
 unfolding digits
 digit_byte m k h =
     let p : 48 ≤ 48 + k = omega arith in
@@ -41,7 +40,7 @@ digit_byte m k h =
     let e : 48 + k - 48 ≡ k = omega arith in
     rw (le-leb _ _ p, le-leb _ _ q, e)
 
-pub digits_written : (w n a : ℕ) → n < 10 ^ w → digits a (digits_of w n) ≡ D.Number (a * 10 ^ w + n)
+pub digits_written : (w n a : ℕ) → n < 10 ^ w → digits a (digits_of w n) ≡ Some (a * 10 ^ w + n)
 unfolding digits_of digits
 digits_written zero n a h = let e : a * 10 ^ 0 + n ≡ a = omega arith in rw e
 digits_written (suc w) n a h =
@@ -81,7 +80,7 @@ pub digits_scan : (w n : ℕ) → n < 10 ^ suc w → scan (digits_of (suc w) n) 
 digits_scan w n h =
     let f = first_digit w n in
     let z : 0 * 10 ^ suc w + n ≡ n = omega arith in
-    first_scan _ f ∙ ap (with_sign false) (first_number_lem _ f ∙ digits_written (suc w) n 0 h ∙ ap D.Number z)
+    first_scan _ f ∙ ap (with_sign false) (first_number_lem _ f ∙ digits_written (suc w) n 0 h ∙ ap Some z)
 
 minus_scan : (s : List ℕ) → scan (45 ∷ s) ≡ with_sign true (number s)
 unfolding scan skip signed_number
@@ -95,14 +94,14 @@ int_back zero v h e = let y : ⊥ = omega arith in absurd y
 int_back (suc w) (pos n) h e =
     let f = first_digit w n in
     let z : 0 * 10 ^ suc w + n ≡ n = omega arith in
-    ap value (first_scan _ f ∙ ap (with_sign false) (first_number_lem _ f ∙ digits_written (suc w) n 0 (ltb-true _ _ e) ∙ ap D.Number z))
+    ap value (first_scan _ f ∙ ap (with_sign false) (first_number_lem _ f ∙ digits_written (suc w) n 0 (ltb-true _ _ e) ∙ ap Some z))
 int_back (suc zero) (negsuc n) h e = let y : ⊥ = omega (arith, ltb-true (n + 1) 1 e) in absurd y
 int_back (suc (suc w)) (negsuc n) h e =
     let f = first_digit w (n + 1) in
     let k : suc (suc w) - 1 ≡ suc w = omega arith in
     let z : 0 * 10 ^ suc w + (n + 1) ≡ suc n = omega arith in
     rw k
-    (ap value (minus_scan _ ∙ ap (with_sign true) (first_number_lem _ f ∙ digits_written (suc w) (n + 1) 0 (ltb-true _ _ (rw k at e)) ∙ ap D.Number z)))
+    (ap value (minus_scan _ ∙ ap (with_sign true) (first_number_lem _ f ∙ digits_written (suc w) (n + 1) 0 (ltb-true _ _ (rw k at e)) ∙ ap Some z)))
 
 pub int_length : (w : ℕ) (v : ℤ) → 1 ≤ w → length (int_bytes w v) ≡ w
 unfolding int_bytes
@@ -115,16 +114,16 @@ abbrev pub sign_places : Bool → ℕ
 sign_places true = 1
 sign_places false = 0
 
-pub digits_split : (w n : ℕ) → digits (n / 10 ^ w) (digits_of w n) ≡ D.Number n
+pub digits_split : (w n : ℕ) → digits (n / 10 ^ w) (digits_of w n) ≡ Some n
 unfolding digits_of digits
-digits_split zero n = ap D.Number (div-one n)
+digits_split zero n = ap Some (div-one n)
 digits_split (suc w) n =
     let e : n / 10 ^ suc w ≡ n / 10 / 10 ^ w = rw (pow-succ', div-div-eq-div-mul) in
     let z : n / 10 * 10 + n % 10 ≡ n = omega arith in
     rw e
     (digits_append (n / 10 / 10 ^ w) (n / 10) (digits_of w (n / 10)) ((48 + n % 10) ∷ []) (digits_split w (n / 10))
     ∙ digit_byte (n / 10) (n % 10) (omega arith)
-    ∙ ap D.Number z)
+    ∙ ap Some z)
 
 digit_cons : (m k : ℕ) (t : List ℕ) → k < 10 → digits m ((48 + k) ∷ t) ≡ digits (m * 10 + k) t
 unfolding digits

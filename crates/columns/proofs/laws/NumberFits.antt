@@ -13,7 +13,7 @@ use borrow.Author.Tests.{lt-ltb}
 use native.Mathlib.Numerals.{add-one}
 use lib.Seq.{length-take-le}
 use Rattle.columns.specs.declared.number.Scan.{Scan}
-use Rattle.columns.specs.declared.number.Digits.{Digits}
+use Rattle.std.specs.Prelude.{Option, Some, None}
 use Rattle.columns.specs.Answer.{pick}
 use Rattle.columns.specs.Bytes.{is_none, trim}
 use Rattle.columns.specs.Number.{digits, number, with_sign, signed_number, scan, fraction, signed, value, int_field, dec_field, holds_int, holds_dec}
@@ -23,13 +23,12 @@ use Rattle.columns.proofs.laws.NumberBack.{sign_places}
 use Rattle.columns.proofs.laws.Bytes.{skip_short}
 use Rattle.columns.specs.declared.number.Field.TheVariants as F
 use Rattle.columns.specs.declared.number.Scan.TheVariants as S
-use Rattle.columns.specs.declared.number.Digits.TheVariants as D
 
-with_inv : (k : Bool) (x : Digits) (m : Bool) (n : ℕ) → with_sign k x ≡ S.Number m n → (k ≡ m) × (x ≡ D.Number n)
-with_inv k (D.Number j) m n e = (cc, cc)
-with_inv k D.NoNumber m n e = let z : ◌≡◌ {A = ℕ} 0 1 = cc in let y : ⊥ = omega arith in absurd y
+with_inv : (k : Bool) (x : (Option ℕ)) (m : Bool) (n : ℕ) → with_sign k x ≡ S.Number m n → (k ≡ m) × (x ≡ Some n)
+with_inv k (Some j) m n e = (cc, cc)
+with_inv k None m n e = let z : ◌≡◌ {A = ℕ} 0 1 = cc in let y : ⊥ = omega arith in absurd y
 
-number_fits : (s : List ℕ) (n : ℕ) → number s ≡ D.Number n → n < 10 ^ length s
+number_fits : (s : List ℕ) (n : ℕ) → number s ≡ Some n → n < 10 ^ length s
 unfolding number
 number_fits [] n e = let z : ◌≡◌ {A = ℕ} 0 1 = cc in let y : ⊥ = omega arith in absurd y
 number_fits (b ∷ s) n e = digits_bound (10 ^ length (b ∷ s)) 0 (b ∷ s) n (omega arith) e

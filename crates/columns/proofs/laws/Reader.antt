@@ -5,31 +5,33 @@ use mathlib.Core.List.{List, [], ◌∷◌, ◌++◌, append_assoc, append-nil}
 use Prim.Native.Nat.{ℕ, ◌+◌, ◌-◌, ◌≤◌, ◌<◌}
 use native.Mathlib.Omega.{arith}
 use lib.ListN.{length, take, drop, get_or, length-append, length-drop}
-use lib.IntN.{ℤ}
+use lib.IntN.{ℤ, pos}
 use lib.Seq.{length-take-le, drop-drop, slice}
-use Rattle.columns.specs.declared.Outcome.{Outcome}
 use Rattle.columns.specs.declared.number.Field.{Field}
 use Rattle.columns.specs.declared.group.Three.{Three}
 use Rattle.columns.specs.declared.group.Group.{Group}
 use Rattle.columns.specs.declared.cursor.Cell.{Cell}
 use Rattle.columns.specs.declared.column.Column.{Column}
-use Rattle.columns.specs.Answer.{Answer, ok, refusal, both, not_blank, required_blank, out_of_range, wrong_letter}
+use Rattle.std.specs.Prelude.{Ok, Err, Option, Some, None, is_some}
+use Rattle.std.specs.Option.{unwrap_or}
+use mir.Val.{bool_byte}
+use Rattle.columns.specs.declared.Reason.{Reason}
+use Rattle.columns.specs.declared.Refusal.{Refusal}
+use Rattle.columns.specs.Answer.{refusal_at, Answer, ok, refusal, both, not_blank, required_blank, out_of_range, wrong_letter}
 use Rattle.columns.specs.Bytes.{is_none, skip, member}
 use Rattle.columns.specs.Number.{field_of}
 use Rattle.columns.specs.Column.{Slot, missing, given, Rec, joined, allowed, Col, numeric, text, letter, group, printed, width, slots, texts}
 use Rattle.columns.specs.Group.{group_range, group_rec, group_field, judge_group}
 use Rattle.columns.specs.Reading.{nothing, one_number, some_text, judge, read_cell, read_columns, read_part}
-use Rattle.columns.specs.Table.{column_in, col_of, columns_of, slots_of, flags_of, values_of, over, outcome_of, ReadPart, Table, placed}
-use Rattle.columns.specs.Cell.{cell_rec, cell_answer, Readable, Storable, Stored}
+use Rattle.columns.specs.Table.{Outcome, column_in, col_of, columns_of, slots_of, flag_of, value_of, flags_of, values_of, over, outcome_of, ReadPart, Table, placed}
+use Rattle.columns.specs.Cell.{slot, cell_rec, cell_answer, Readable, Storable, Stored}
 use Rattle.columns.proofs.laws.Answers.{passed, held, chained, done_of, refused_of}
 use Rattle.columns.proofs.laws.Places.{placed_length, placed_placed, placed_none}
 use Rattle.columns.proofs.laws.Table.{flags_length, values_length, flags_append, values_append, slots_laid, columns_more, columns_none, table_good, table_fits, table_numbers, table_chars, table_line, table_next}
 use Rattle.columns.proofs.laws.Bytes.{slice_is}
 use Rattle.columns.proofs.laws.Columns.{text_read}
-use Rattle.columns.specs.declared.Outcome.TheVariants as O
 use Rattle.columns.specs.declared.number.Field.TheVariants as F
 use Rattle.columns.specs.declared.group.Three.TheVariants as K
-use Rattle.columns.specs.declared.cursor.Cell.TheVariants as C
 
 -- ---- what was read has the column's sizes
 
@@ -63,36 +65,24 @@ cell_sizes (printed b w) seen at f r l e =
     let d : nothing ≡ r = cc (held (is_none (skip b f)) not_blank (at + 1 + (length f - length (skip b f))) (ok nothing) r e).1 in
     rw (← d) (refl, refl)
 
+-- ---- a number as the code has it
+
+pub flag_is : (n : Option ℤ) → bool_byte (is_some n) ≡ flag_of (slot n)
+flag_is None = refl
+flag_is (Some v) = refl
+
+pub value_is : (n : Option ℤ) → unwrap_or n (pos 0) ≡ value_of (slot n)
+value_is None = refl
+value_is (Some v) = refl
+
 -- ---- what the cursor found, as an answer
 
 module _ (f : List ℕ) where
-  pub cell_done : (x : Cell) → O.Done ≡ outcome_of (cell_answer x f) → cell_answer x f ≡ ok (cell_rec x f)
-  cell_done C.Absent e = refl
-  cell_done (C.Number v) e = refl
-  cell_done C.NoThree e = refl
-  cell_done (C.Three h m s) e = refl
-  cell_done C.Chars e = refl
-  cell_done C.Gap e = refl
-  cell_done (C.Refused n k) e = let z : ◌≡◌ {A = ℕ} 0 1 = cc in let y : ⊥ = omega arith in absurd y
-
-  pub cell_refused : (x : Cell) (m j : ℕ) → O.Refused m j ≡ outcome_of (cell_answer x f) → (cell_answer x f ≡ refusal m j) × (cell_rec x f ≡ nothing)
-  cell_refused C.Absent m j e = let z : ◌≡◌ {A = ℕ} 0 1 = cc in let y : ⊥ = omega arith in absurd y
-  cell_refused (C.Number v) m j e = let z : ◌≡◌ {A = ℕ} 0 1 = cc in let y : ⊥ = omega arith in absurd y
-  cell_refused C.NoThree m j e = let z : ◌≡◌ {A = ℕ} 0 1 = cc in let y : ⊥ = omega arith in absurd y
-  cell_refused (C.Three h i s) m j e = let z : ◌≡◌ {A = ℕ} 0 1 = cc in let y : ⊥ = omega arith in absurd y
-  cell_refused C.Chars m j e = let z : ◌≡◌ {A = ℕ} 0 1 = cc in let y : ⊥ = omega arith in absurd y
-  cell_refused C.Gap m j e = let z : ◌≡◌ {A = ℕ} 0 1 = cc in let y : ⊥ = omega arith in absurd y
-  cell_refused (C.Refused n k) m j e = (cc, refl)
-
-  cell_case : (x : Cell) (c : Col) (seen : List Slot) (at : ℕ) → length f ≡ width c → cell_answer x f ≡ read_cell c seen at f → (o : Outcome) → o ≡ outcome_of (cell_answer x f) → (length (cell_rec x f).numbers ≤ slots c) × (length (cell_rec x f).chars ≤ texts c)
-  cell_case x c seen at l e O.Done p =
-      let z = cell_sizes c seen at f (cell_rec x f) l (sym e ∙ cell_done x p) in
-      (omega (arith, z.0), omega (arith, z.1))
-  cell_case x c seen at l e (O.Refused m j) p = rw (cell_refused x m j p).1 (omega arith, omega arith)
-
   -- it fits where its column does
-  pub cell_fits : (x : Cell) (c : Col) (seen : List Slot) (at : ℕ) → length f ≡ width c → cell_answer x f ≡ read_cell c seen at f → (length (cell_rec x f).numbers ≤ slots c) × (length (cell_rec x f).chars ≤ texts c)
-  cell_fits x c seen at l e = cell_case x c seen at l e (outcome_of (cell_answer x f)) refl
+  pub cell_fits : (x : Cell) (c : Col) (seen : List Slot) (at : ℕ) → length f ≡ width c → cell_answer (Ok x) f ≡ read_cell c seen at f → (length (cell_rec x f).numbers ≤ slots c) × (length (cell_rec x f).chars ≤ texts c)
+  cell_fits x c seen at l e =
+      let z = cell_sizes c seen at f (cell_rec x f) l (sym e) in
+      (omega (arith, z.0), omega (arith, z.1))
 
 -- ---- records in two parts
 
@@ -127,7 +117,7 @@ pub record Whole (a : Answer Rec) (f f₁ : List ℕ) (v v₁ : List ℤ) (t t�
   pub chars : t₁ ≡ over value.chars t
 
 module _ {a : Answer Rec} {part : Rec} {f f₁ : List ℕ} {v v₁ : List ℤ} {t t₁ : List ℕ} where
-  pub read_whole : ((r : Rec) → a ≡ ok r → part ≡ r) → ReadPart a part O.Done f f₁ v v₁ t t₁ → Whole a f f₁ v v₁ t t₁
+  pub read_whole : ((r : Rec) → a ≡ ok r → part ≡ r) → ReadPart a part (Ok tt) f f₁ v v₁ t t₁ → Whole a f f₁ v v₁ t t₁
   read_whole g p =
       let d = done_of a p.answer in
       let e = g d.value d.is in
@@ -139,11 +129,11 @@ module _ {a : Answer Rec} {part : Rec} {f f₁ : List ℕ} {v v₁ : List ℤ} {
         chars = p.chars ∙ ap (λ (r : Rec). over r.chars t) e;
       }
 
-  pub read_refused : (m j : ℕ) → ReadPart a part (O.Refused m j) f f₁ v v₁ t t₁ → a ≡ refusal m j
-  read_refused m j p = refused_of a m j p.answer
+  pub read_refused : (e : Refusal) → ReadPart a part (Err e) f f₁ v v₁ t t₁ → a ≡ refusal e.reason e.column
+  read_refused e p = refused_of a e p.answer
 
 -- where nothing was read, nothing is stored
-pub none_read : (n k : ℕ) (f : List ℕ) (v : List ℤ) (t : List ℕ) → ReadPart (refusal n k) nothing (O.Refused n k) f f v v t t
+pub none_read : (n : Reason) (k : ℕ) (f : List ℕ) (v : List ℤ) (t : List ℕ) → ReadPart (refusal n k) nothing (Err (refusal_at n k)) f f v v t t
 unfolding flags_of values_of
 none_read n k f v t = record { answer = refl; flags = refl; values = refl; chars = refl }
 
@@ -201,9 +191,9 @@ module _ {cs : List Col} {start : ℕ} {line f₀ : List ℕ} {v₀ : List ℤ} 
         chars = rw p g.text;
       }
 
-pub going_end : {cs : List Col} {start : ℕ} {line f₀ : List ℕ} {v₀ : List ℤ} {t₀ : List ℕ} {at k t : ℕ} {f : List ℕ} {v : List ℤ} {x : List ℕ} → Going cs start line f₀ v₀ t₀ [] at k t f v x → ReadPart (read_columns cs [] start (drop start line)) (read_part cs [] start (drop start line)) O.Done f₀ f v₀ v t₀ x
+pub going_end : {cs : List Col} {start : ℕ} {line f₀ : List ℕ} {v₀ : List ℤ} {t₀ : List ℕ} {at k t : ℕ} {f : List ℕ} {v : List ℤ} {x : List ℕ} → Going cs start line f₀ v₀ t₀ [] at k t f v x → ReadPart (read_columns cs [] start (drop start line)) (read_part cs [] start (drop start line)) (Ok tt) f₀ f v₀ v t₀ x
 unfolding read_columns read_part
-going_end g = going_part g O.Done (ok g.done) (g.read ∙ ap ok (joined_none g.done)) (g.part ∙ joined_none g.done) refl
+going_end g = going_part g (Ok tt) (ok g.done) (g.read ∙ ap ok (joined_none g.done)) (g.part ∙ joined_none g.done) refl
 
 module _ {cs : List Col} {start : ℕ} {line f₀ : List ℕ} {v₀ : List ℤ} {t₀ : List ℕ} {c : Col} {rest : List Col} {at k t : ℕ} {f : List ℕ} {v : List ℤ} {x : List ℕ} (g : Going cs start line f₀ v₀ t₀ (c ∷ rest) at k t f v x) where
   pub turn_readable : Readable c at (length line) k (length f) (length v)
@@ -219,75 +209,72 @@ module _ {cs : List Col} {start : ℕ} {line f₀ : List ℕ} {v₀ : List ℤ} 
   pub bytes_size : length (take (width c) (drop at line)) ≡ width c
   bytes_size = length-take-le (width c) (drop at line) (omega (arith, length-drop at line, table_line g.ready))
 
-  module _ (y : Cell) (b : List ℕ) (eb : b ≡ take (width c) (drop at line)) (e : cell_answer y b ≡ read_cell c (take k (slots_of f v)) at b) where
+  module _ (b : List ℕ) (eb : b ≡ take (width c) (drop at line)) where
     b_size : length b ≡ width c
     b_size = ap length eb ∙ bytes_size
 
     -- the column, as the list of columns has it
-    turn_cell : (o : Answer Rec) → cell_answer y b ≡ o → read_cell c g.done.numbers at (take (width c) (drop at line)) ≡ o
-    turn_cell o p = rw (← going_seen g, ← eb) (sym e ∙ p)
+    turn_cell : (o : Answer Rec) → o ≡ read_cell c (take k (slots_of f v)) at b → read_cell c g.done.numbers at (take (width c) (drop at line)) ≡ o
+    turn_cell o p = rw (← going_seen g, ← eb) (sym p)
 
-    pub turn_storable : Storable (cell_rec y b) k (length f) (length v) t (length x)
-    turn_storable =
-        let z = cell_fits b y c (take k (slots_of f v)) at b_size e in
-        record {
-          same = flags_size g ∙ g.ready.same ∙ sym (values_size g);
-          numbers = omega (arith, z.0, table_numbers g.ready, flags_size g);
-          chars = omega (arith, z.1, table_chars g.ready, text_size g);
-        }
-
-    pub turn_refused : (m j : ℕ) {f₁ : List ℕ} {v₁ : List ℤ} {x₁ : List ℕ} → Stored (cell_answer y b) (cell_rec y b) (O.Refused m j) k f f₁ v v₁ t x x₁ → ReadPart (read_columns cs [] start (drop start line)) (read_part cs [] start (drop start line)) (O.Refused m j) f₀ f₁ v₀ v₁ t₀ x₁
-    unfolding read_columns read_part flags_of values_of
-    turn_refused m j {f₁} {v₁} {x₁} s =
-        let p = cell_refused b y m j s.answer in
-        let q = turn_cell (refusal m j) p.0 in
-        let a : f₁ ≡ f = s.flags ∙ rw p.1 (sym (placed_none k f)) in
-        let d : v₁ ≡ v = s.values ∙ rw p.1 (sym (placed_none k v)) in
-        let u : x₁ ≡ x = s.chars ∙ rw p.1 (sym (placed_none t x)) in
-        rw (a, d, u) (going_part g (O.Refused m j) (refusal m j) (g.read ∙ rw q) (g.part ∙ rw q (joined_none g.done)) refl)
-
-    pub turn_done : (at₁ k₁ t₁ : ℕ) → at₁ ≡ at + width c → k₁ ≡ k + slots c → t₁ ≡ t + texts c → {f₁ : List ℕ} {v₁ : List ℤ} {x₁ : List ℕ} → Stored (cell_answer y b) (cell_rec y b) O.Done k f f₁ v v₁ t x x₁ → Going cs start line f₀ v₀ t₀ rest at₁ k₁ t₁ f₁ v₁ x₁
+    pub turn_refused : (e : Refusal) → cell_answer (Err e) b ≡ read_cell c (take k (slots_of f v)) at b → ReadPart (read_columns cs [] start (drop start line)) (read_part cs [] start (drop start line)) (Err e) f₀ f v₀ v t₀ x
     unfolding read_columns read_part
-    turn_done at₁ k₁ t₁ ea ek et s =
-        let q = turn_cell (ok (cell_rec y b)) (cell_done b y s.answer) in
-        let z = cell_sizes c g.done.numbers at (take (width c) (drop at line)) (cell_rec y b) bytes_size q in
-        record {
-          done = joined g.done (cell_rec y b);
-          numbers = length-append g.done.numbers (cell_rec y b).numbers ∙ omega (arith, z.0, g.numbers);
-          chars = length-append g.done.chars (cell_rec y b).chars ∙ omega (arith, z.1, g.chars);
-          flags =
-              s.flags
-              ∙ ap (placed k (flags_of (cell_rec y b).numbers)) g.flags
-              ∙ placed_placed 0 k (flags_of g.done.numbers) (flags_of (cell_rec y b).numbers) f₀ (omega (arith, flags_length g.done.numbers, g.numbers)) (omega (arith, flags_length (cell_rec y b).numbers, z.0, table_numbers g.ready))
-              ∙ rw (flags_append g.done.numbers (cell_rec y b).numbers);
-          values =
-              s.values
-              ∙ ap (placed k (values_of (cell_rec y b).numbers)) g.values
-              ∙ placed_placed 0 k (values_of g.done.numbers) (values_of (cell_rec y b).numbers) v₀ (omega (arith, values_length g.done.numbers, g.numbers)) (omega (arith, values_length (cell_rec y b).numbers, z.0, table_numbers g.ready, g.ready.same))
-              ∙ rw (values_append g.done.numbers (cell_rec y b).numbers);
-          text =
-              s.chars
-              ∙ ap (placed t (cell_rec y b).chars) g.text
-              ∙ placed_placed 0 t g.done.chars (cell_rec y b).chars t₀ (omega (arith, g.chars)) (omega (arith, z.1, table_chars g.ready));
-          ready = table_next g.ready at₁ k₁ t₁ ea ek et;
-          read =
-              rw ea
-              (g.read
-              ∙ rw (q, drop-drop)
-              (both_joined g.done (cell_rec y b) (read_columns rest (g.done.numbers ++ (cell_rec y b).numbers) (at + width c) (drop (at + width c) line))));
-          part =
-              rw ea
-              (g.part
-              ∙ rw (q, drop-drop)
-              (joined_joined g.done (cell_rec y b) (read_part rest (g.done.numbers ++ (cell_rec y b).numbers) (at + width c) (drop (at + width c) line))));
-        }
+    turn_refused e p =
+        let q = turn_cell (refusal e.reason e.column) p in
+        going_part g (Err e) (refusal e.reason e.column) (g.read ∙ rw q) (g.part ∙ rw q (joined_none g.done)) refl
+
+    module _ (y : Cell) (e : cell_answer (Ok y) b ≡ read_cell c (take k (slots_of f v)) at b) where
+      pub turn_storable : Storable (cell_rec y b) k (length f) (length v) t (length x)
+      turn_storable =
+          let z = cell_fits b y c (take k (slots_of f v)) at b_size e in
+          record {
+            same = flags_size g ∙ g.ready.same ∙ sym (values_size g);
+            numbers = omega (arith, z.0, table_numbers g.ready, flags_size g);
+            chars = omega (arith, z.1, table_chars g.ready, text_size g);
+          }
+
+      pub turn_done : (at₁ k₁ t₁ : ℕ) → at₁ ≡ at + width c → k₁ ≡ k + slots c → t₁ ≡ t + texts c → {f₁ : List ℕ} {v₁ : List ℤ} {x₁ : List ℕ} → Stored (cell_rec y b) k f f₁ v v₁ t x x₁ → Going cs start line f₀ v₀ t₀ rest at₁ k₁ t₁ f₁ v₁ x₁
+      unfolding read_columns read_part
+      turn_done at₁ k₁ t₁ ea ek et s =
+          let q = turn_cell (ok (cell_rec y b)) e in
+          let z = cell_sizes c g.done.numbers at (take (width c) (drop at line)) (cell_rec y b) bytes_size q in
+          record {
+            done = joined g.done (cell_rec y b);
+            numbers = length-append g.done.numbers (cell_rec y b).numbers ∙ omega (arith, z.0, g.numbers);
+            chars = length-append g.done.chars (cell_rec y b).chars ∙ omega (arith, z.1, g.chars);
+            flags =
+                s.flags
+                ∙ ap (placed k (flags_of (cell_rec y b).numbers)) g.flags
+                ∙ placed_placed 0 k (flags_of g.done.numbers) (flags_of (cell_rec y b).numbers) f₀ (omega (arith, flags_length g.done.numbers, g.numbers)) (omega (arith, flags_length (cell_rec y b).numbers, z.0, table_numbers g.ready))
+                ∙ rw (flags_append g.done.numbers (cell_rec y b).numbers);
+            values =
+                s.values
+                ∙ ap (placed k (values_of (cell_rec y b).numbers)) g.values
+                ∙ placed_placed 0 k (values_of g.done.numbers) (values_of (cell_rec y b).numbers) v₀ (omega (arith, values_length g.done.numbers, g.numbers)) (omega (arith, values_length (cell_rec y b).numbers, z.0, table_numbers g.ready, g.ready.same))
+                ∙ rw (values_append g.done.numbers (cell_rec y b).numbers);
+            text =
+                s.chars
+                ∙ ap (placed t (cell_rec y b).chars) g.text
+                ∙ placed_placed 0 t g.done.chars (cell_rec y b).chars t₀ (omega (arith, g.chars)) (omega (arith, z.1, table_chars g.ready));
+            ready = table_next g.ready at₁ k₁ t₁ ea ek et;
+            read =
+                rw ea
+                (g.read
+                ∙ rw (q, drop-drop)
+                (both_joined g.done (cell_rec y b) (read_columns rest (g.done.numbers ++ (cell_rec y b).numbers) (at + width c) (drop (at + width c) line))));
+            part =
+                rw ea
+                (g.part
+                ∙ rw (q, drop-drop)
+                (joined_joined g.done (cell_rec y b) (read_part rest (g.done.numbers ++ (cell_rec y b).numbers) (at + width c) (drop (at + width c) line))));
+          }
 
 -- the next row of the table
-pub going_row : (s : List ℕ) (r : List ℤ) (ls : List ℕ) (i n : ℕ) (row : Column) {cs : List Col} {start : ℕ} {line f₀ : List ℕ} {v₀ : List ℤ} {t₀ : List ℕ} {at k t : ℕ} {f : List ℕ} {v : List ℤ} {x : List ℕ} → i < n → row ≡ column_in (get_or s i 0) → Going cs start line f₀ v₀ t₀ (columns_of s r ls i (n - i)) at k t f v x → Going cs start line f₀ v₀ t₀ (col_of row r ls ∷ columns_of s r ls (i + 1) (n - (i + 1))) at k t f v x
-going_row s r ls i n row h e g = rw (e, ← columns_more s r ls i n h) g
+pub going_row : (s : List ℕ) (r : List ℤ) (ls : List ℕ) (i : ℕ) (row : Column) {cs : List Col} {start : ℕ} {line f₀ : List ℕ} {v₀ : List ℤ} {t₀ : List ℕ} {at k t : ℕ} {f : List ℕ} {v : List ℤ} {x : List ℕ} → i < length s → row ≡ column_in (get_or s i 0) → Going cs start line f₀ v₀ t₀ (columns_of (drop i s) r ls) at k t f v x → Going cs start line f₀ v₀ t₀ (col_of row r ls ∷ columns_of (drop (i + 1) s) r ls) at k t f v x
+going_row s r ls i row h e g = rw (e, ← columns_more s r ls i h) g
 
-pub going_last : (s : List ℕ) (r : List ℤ) (ls : List ℕ) (i n : ℕ) {cs : List Col} {start : ℕ} {line f₀ : List ℕ} {v₀ : List ℤ} {t₀ : List ℕ} {at k t : ℕ} {f : List ℕ} {v : List ℤ} {x : List ℕ} → n ≤ i → Going cs start line f₀ v₀ t₀ (columns_of s r ls i (n - i)) at k t f v x → Going cs start line f₀ v₀ t₀ [] at k t f v x
-going_last s r ls i n h g = rw (← columns_none s r ls i n h) g
+pub going_last : (s : List ℕ) (r : List ℤ) (ls : List ℕ) (i : ℕ) {cs : List Col} {start : ℕ} {line f₀ : List ℕ} {v₀ : List ℤ} {t₀ : List ℕ} {at k t : ℕ} {f : List ℕ} {v : List ℤ} {x : List ℕ} → length s ≤ i → Going cs start line f₀ v₀ t₀ (columns_of (drop i s) r ls) at k t f v x → Going cs start line f₀ v₀ t₀ [] at k t f v x
+going_last s r ls i h g = rw (← columns_none s r ls i h) g
 
 -- the bytes of a column, as the code lends them and as the cursor read them
 pub part_bytes : (l : List ℕ) (at w : ℕ) → (at + w - at ≡ w) × (slice at (at + w) l ≡ take (at + w - at) (drop at l))

@@ -1,6 +1,6 @@
 -- Laws of a row's list of columns: what is read or written is whole and small, no comment and not blank.
 use mathlib.Core.Path.{◌≡◌, refl, sym, ap, ◌∙◌}
-use mathlib.Core.Bool.{Bool, true, false, not, ◌&&◌}
+use mathlib.Core.Bool.{false≢true, Bool, true, false, not, ◌&&◌}
 use mathlib.Core.List.{List, [], ◌∷◌, ◌++◌}
 use Prim.Native.Nat.{ℕ, zero, suc, ◌+◌, ◌-◌, ◌*◌, ◌^◌, ◌≤◌, ◌<◌}
 use native.Mathlib.Omega.{arith}
@@ -10,12 +10,15 @@ use lib.ListN.{length, take, drop, get_or, replicate, length-drop, length-replic
 use lib.Seq.{length-take-le, take_all, drop-cons, drop-drop, get_or-take, take_at, drop_at}
 use lib.Dec.{T, leb, ltb, eqb, leb→le}
 use borrow.Author.Tests.{ltb-true, ltb-false, le-ltb, eq-eqb, ne_eqb, eqb-true}
+use Rattle.std.specs.Prelude.{IsTrue, ◌↔◌, EachIndex, slice_index}
+use Rattle.columns.specs.declared.Reason.{Reason}
 use Rattle.columns.specs.Answer.{pick, ok, refusal, not_blank, required_blank, bad_form, out_of_range, too_wide, too_short}
 use Rattle.columns.specs.declared.number.Form.{Form}
 use Rattle.columns.specs.declared.group.Group.{Group}
 use Rattle.columns.specs.Bytes.{is_none, skip, all_blank}
 use Rattle.columns.specs.Number.{form_width, good_form, field_of, holds, holds_int, holds_dec, field_bytes}
-use Rattle.columns.specs.Column.{mark, Slot, missing, given, Rec, joined, allowed, Rule, any_text, no_brackets, not_blank_first, not_all_blank, blank_or_filled, Col, numeric, text, letter, group, printed, width, slots, texts, good_group, good_col, good, widths, all_slots}
+use Rattle.columns.specs.declared.column.Rule.TheVariants as U
+use Rattle.columns.specs.Column.{mark, Slot, missing, given, Rec, joined, allowed, Rule, Col, numeric, text, letter, group, printed, width, slots, texts, good_group, good_col, good, widths, all_slots}
 use Rattle.columns.specs.Group.{group_holds, group_range, group_bytes, put_group}
 use Rattle.columns.specs.Reading.{nothing, judge, judge_printed, rule_refuses, rule_number, judge_text, as_text, read_cell, read_columns}
 use Rattle.columns.specs.Writing.{put_number, write_cell, write_columns, write_line}
@@ -144,7 +147,7 @@ written_whole (c ∷ cs) seen at ns t ys g n e =
 
 -- ---- a line that is read is no comment: it does not begin with a blank and `(`
 
-no_answer : {A : Type 0} (n k : ℕ) (x : A) → refusal n k ≡ ok x → ⊥
+no_answer : {A : Type 0} (n : Reason) (k : ℕ) (x : A) → refusal n k ≡ ok x → ⊥
 no_answer n k x e = let z : ◌≡◌ {A = ℕ} 0 1 = cc in omega arith
 
 module _ (x : Rule) (at w : ℕ) (line : List ℕ) (r : Rec) (h : 1 ≤ w) (e : as_text (judge_text x at (take w line) (ok (take w line))) ≡ ok r) where
@@ -156,14 +159,14 @@ module _ (x : Rule) (at w : ℕ) (line : List ℕ) (r : Rec) (h : 1 ≤ w) (e : 
   first_byte p = get_or-take w line 0 0 h ∙ p
 
 text_opened : (x : Rule) (at w : ℕ) (line : List ℕ) (r : Rec) → 1 ≤ w → T (opens_text w x) → as_text (judge_text x at (take w line) (ok (take w line))) ≡ ok r → get_or line 0 0 ≡ 32 → get_or line 1 0 ≡ 40 → ⊥
-text_opened any_text at w line r h o e p q = absurd o
-text_opened no_brackets at w line r h o e p q = absurd o
-text_opened not_all_blank at w line r h o e p q = absurd o
-text_opened not_blank_first at w line r h o e p q =
-    let z : eqb 32 32 ≡ false = rw (first_byte not_blank_first at w line r h e p) at (ruled not_blank_first at w line r h e) in
+text_opened U.AnyText at w line r h o e p q = absurd o
+text_opened U.NoBrackets at w line r h o e p q = absurd o
+text_opened U.NotAllBlank at w line r h o e p q = absurd o
+text_opened U.NotBlankFirst at w line r h o e p q =
+    let z : eqb 32 32 ≡ false = rw (first_byte U.NotBlankFirst at w line r h e p) at (ruled U.NotBlankFirst at w line r h e) in
     let y : ◌≡◌ {A = ℕ} 0 1 = cc in omega arith
-text_opened blank_or_filled at w line r h o e p q =
-    let z : not (all_blank (take w line)) ≡ false = rw (first_byte blank_or_filled at w line r h e p) at (ruled blank_or_filled at w line r h e) in
+text_opened U.BlankOrFilled at w line r h o e p q =
+    let z : not (all_blank (take w line)) ≡ false = rw (first_byte U.BlankOrFilled at w line r h e p) at (ruled U.BlankOrFilled at w line r h e) in
     blanks_only (take w line) 1 40 (omega arith) (not_not (all_blank (take w line)) z) (get_or-take w line 1 0 (leb→le 2 w o) ∙ q)
 
 -- a printed byte above the blank is none, so nothing that begins with a blank is as printed
@@ -196,7 +199,7 @@ read_opened (c ∷ cs) seen at line r g o e =
 
 -- ---- a line that is read begins with the mark that its first column is
 
-marked_by : (t : Bool) (x b n k : ℕ) (r : Rec) → eqb x b ≡ t → pick (is_none (pick t [] (x ∷ []))) (ok nothing) (refusal n k) ≡ ok r → x ≡ b
+marked_by : (t : Bool) (x b : ℕ) (n : Reason) (k : ℕ) (r : Rec) → eqb x b ≡ t → pick (is_none (pick t [] (x ∷ []))) (ok nothing) (refusal n k) ≡ ok r → x ≡ b
 marked_by true x b n k r p e = eqb-true x b p
 marked_by false x b n k r p e = absurd (no_answer n k r e)
 
@@ -218,11 +221,11 @@ blank_required m fit at true r t e = no_answer required_blank (at + 1) r (rw (fo
 blank_required m fit at false r t e = absurd t
 
 blank_refused : (x : Rule) (w : ℕ) → 1 ≤ w → T (fills_text x) → rule_refuses x (replicate w 32) ≡ true
-blank_refused any_text w h f = absurd f
-blank_refused no_brackets w h f = absurd f
-blank_refused not_blank_first w h f = rw (get_or-replicate {A = ℕ} w 0 32 0 h)
-blank_refused not_all_blank w h f = rw (trim_blanks w)
-blank_refused blank_or_filled w h f = absurd f
+blank_refused U.AnyText w h f = absurd f
+blank_refused U.NoBrackets w h f = absurd f
+blank_refused U.NotBlankFirst w h f = rw (get_or-replicate {A = ℕ} w 0 32 0 h)
+blank_refused U.NotAllBlank w h f = rw (trim_blanks w)
+blank_refused U.BlankOrFilled w h f = absurd f
 
 cell_fills : (c : Col) (seen : List Slot) (at : ℕ) (r : Rec) → T (good_col c) → T (fills c) → read_cell c seen at (replicate (width c) 32) ≡ ok r → ⊥
 unfolding read_cell
@@ -258,99 +261,65 @@ read_fills (c ∷ cs) seen at line r g f b e =
 
 -- ---- the loops that test it
 
--- the flags before place i are f
-pub record Alike (fs : List ℕ) (f i : ℕ) : Type 0 where
-  pub inside : i ≤ length fs
-  pub same : alike fs ≡ all_same f (drop i fs)
-
-module _ (fs : List ℕ) where
-  pub alike_none : length fs ≡ 0 → true ≡ alike fs
-  unfolding alike
-  alike_none n = by_list fs n
-    where
-      by_list : (l : List ℕ) → length l ≡ 0 → true ≡ alike l
-      by_list [] m = refl
-      by_list (x ∷ l) m = absurd (omega arith)
-
-  pub alike_start : (length fs ≡ 0 → ⊥) → Alike fs (get_or fs 0 0) 1
-  unfolding alike
-  alike_start n = by_list fs n
-    where
-      by_list : (l : List ℕ) → (length l ≡ 0 → ⊥) → Alike l (get_or l 0 0) 1
-      by_list [] m = absurd (m refl)
-      by_list (x ∷ l) m = record { inside = omega arith; same = refl }
-
-  module _ (f i : ℕ) (a : Alike fs f i) where
-    pub alike_end : length fs ≤ i → true ≡ alike fs
-    unfolding all_same
-    alike_end h = sym (a.same ∙ rw (drop_of_length-le fs {i = i} h))
-
-    pub alike_other : i < length fs → (get_or fs i 0 ≡ f → ⊥) → false ≡ alike fs
-    unfolding all_same
-    alike_other h n = sym (a.same ∙ rw (drop-cons fs i 0 h, ne_eqb (get_or fs i 0) f n))
-
-    pub alike_more : i < length fs → get_or fs i 0 ≡ f → Alike fs f (i + 1)
-    unfolding all_same
-    alike_more h e = record { inside = omega arith; same = a.same ∙ rw (drop-cons fs i 0 h, eq-eqb (get_or fs i 0) f e, add-one) }
-
--- the same, where f is given
-pub record Same (fs : List ℕ) (f i : ℕ) : Type 0 where
-  pub inside : i ≤ length fs
-  pub same : all_same f fs ≡ all_same f (drop i fs)
-
-module _ (fs : List ℕ) (f : ℕ) where
-  pub same_start : Same fs f 0
-  same_start = record { inside = omega arith; same = refl }
-
-  module _ (i : ℕ) (a : Same fs f i) where
-    pub same_end : length fs ≤ i → true ≡ all_same f fs
-    unfolding all_same
-    same_end h = sym (a.same ∙ rw (drop_of_length-le fs {i = i} h))
-
-    pub same_other : i < length fs → (get_or fs i 0 ≡ f → ⊥) → false ≡ all_same f fs
-    unfolding all_same
-    same_other h n = sym (a.same ∙ rw (drop-cons fs i 0 h, ne_eqb (get_or fs i 0) f n))
-
-    pub same_more : i < length fs → get_or fs i 0 ≡ f → Same fs f (i + 1)
-    unfolding all_same
-    same_more h e = record { inside = omega arith; same = a.same ∙ rw (drop-cons fs i 0 h, eq-eqb (get_or fs i 0) f e, add-one) }
-
--- the first flag, and the others
-pub alike_some : (fs : List ℕ) → (length fs ≡ 0 → ⊥) → all_same (get_or fs 0 0) (take (length fs - 1) (drop 1 fs)) ≡ alike fs
+pub alike_none : (fs : List ℕ) → length fs ≡ 0 → true ≡ alike fs
 unfolding alike
-alike_some [] n = absurd (n refl)
-alike_some (x ∷ fs) n = rw (take_all (length (x ∷ fs) - 1) fs (omega arith))
+alike_none [] n = refl
+alike_none (x ∷ fs) n = absurd (omega arith)
+
+-- the test of all flags, as the code makes it
+each_same : (f : ℕ) (xs : List ℕ) → ((k : ℕ) → k < length xs → get_or xs k 0 ≡ f) → all_same f xs ≡ true
+unfolding all_same
+each_same f [] p = refl
+each_same f (x ∷ xs) p = rw (eq-eqb x f (p 0 (omega arith))) (each_same f xs (λ k h. p (suc k) (omega arith)))
+
+first_same : (f x : ℕ) (xs : List ℕ) (t : Bool) → eqb x f ≡ t → pick t (all_same f xs) false ≡ true → (x ≡ f) × (all_same f xs ≡ true)
+first_same f x xs true p q = (eqb-true x f p, q)
+first_same f x xs false p q = absurd (false≢true q)
+
+same_at : (f : ℕ) (xs : List ℕ) → all_same f xs ≡ true → (k : ℕ) → k < length xs → get_or xs k 0 ≡ f
+unfolding all_same
+same_at f [] e k h = absurd (omega arith)
+same_at f (x ∷ xs) e zero h = (first_same f x xs (eqb x f) refl e).0
+same_at f (x ∷ xs) e (suc k) h = same_at f xs (first_same f x xs (eqb x f) refl e).1 k (omega arith)
+
+not_same : (f : ℕ) (xs : List ℕ) (u : Bool) → all_same f xs ≡ u → (((k : ℕ) → k < length xs → get_or xs k 0 ≡ f) → false ≡ true) → false ≡ u
+not_same f xs true e p = p (same_at f xs e)
+not_same f xs false e p = refl
+
+pub same_each : (f : ℕ) (xs : List ℕ) (b : Bool) → (IsTrue b ↔ EachIndex xs (λ k. slice_index xs k ≡ f)) → b ≡ all_same f xs
+same_each f xs true p = sym (each_same f xs (p.0 refl))
+same_each f xs false p = not_same f xs (all_same f xs) refl p.1
 
 -- the columns that are left, and the numbers before them
 pub record Testing (cs : List Col) (fs : List ℕ) (rest : List Col) (k : ℕ) : Type 0 where
   pub inside : k + all_slots rest ≤ length fs
   pub same : whole cs fs ≡ whole rest (drop k fs)
 
-pub testing_start : (fs : List ℕ) (s : List ℕ) (r : List ℤ) (ls : List ℕ) (i n : ℕ) → all_slots (columns_of s r ls i n) ≤ length fs → Testing (columns_of s r ls i n) fs (columns_of s r ls i (i + n - i)) 0
-testing_start fs s r ls i n h = let z : i + n - i ≡ n = omega arith in rw z (record { inside = omega arith; same = refl })
+pub testing_start : (fs : List ℕ) (cs : List Col) → all_slots cs ≤ length fs → Testing cs fs cs 0
+testing_start fs cs h = record { inside = omega arith; same = refl }
 
-module _ (cs : List Col) (fs : List ℕ) (s : List ℕ) (r : List ℤ) (ls : List ℕ) (i n k : ℕ) (t : Testing cs fs (columns_of s r ls i (n - i)) k) where
-  pub testing_end : n ≤ i → true ≡ whole cs fs
+module _ (cs : List Col) (fs : List ℕ) (s : List ℕ) (r : List ℤ) (ls : List ℕ) (i k : ℕ) (t : Testing cs fs (columns_of (drop i s) r ls) k) where
+  pub testing_end : length s ≤ i → true ≡ whole cs fs
   unfolding whole
-  testing_end h = sym (t.same ∙ rw (columns_none s r ls i n h))
+  testing_end h = sym (t.same ∙ rw (columns_none s r ls i h))
 
-  module _ (h : i < n) (row : Column) (e : row ≡ column_in (get_or s i 0)) (y : ℕ) (b : y ≡ slots_by row) where
+  module _ (h : i < length s) (row : Column) (e : row ≡ column_in (get_or s i 0)) (y : ℕ) (b : y ≡ slots_by row) where
     abbrev rest : List Col
-    rest = columns_of s r ls (i + 1) (n - (i + 1))
+    rest = columns_of (drop (i + 1) s) r ls
 
     slots_here : y ≡ slots (col_of (column_in (get_or s i 0)) r ls)
     slots_here = b ∙ ap slots_by e ∙ sym (sizes (column_in (get_or s i 0)) r ls).numbers
 
     inside_here : k + (y + all_slots rest) ≤ length fs
     unfolding all_slots
-    inside_here = rw slots_here (rw (columns_more s r ls i n h) at t.inside)
+    inside_here = rw slots_here (rw (columns_more s r ls i h) at t.inside)
 
     pub testing_fits : k + y ≤ length fs
     testing_fits = omega (arith, inside_here)
 
     same_here : whole cs fs ≡ alike (take y (drop k fs)) && whole rest (drop (k + y) fs)
     unfolding whole
-    same_here = t.same ∙ rw (columns_more s r ls i n h, ← slots_here, drop-drop y k fs)
+    same_here = t.same ∙ rw (columns_more s r ls i h, ← slots_here, drop-drop y k fs)
 
     module _ (told : Bool) (g : told ≡ alike (take (k + y - k) (drop k fs))) where
       told_here : told ≡ alike (take y (drop k fs))

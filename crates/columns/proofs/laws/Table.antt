@@ -2,58 +2,25 @@
 use mathlib.Core.Path.{◌≡◌, refl, sym, ap, ◌∙◌}
 use mathlib.Core.Bool.{Bool, true, false, ◌&&◌}
 use mathlib.Core.List.{List, [], ◌∷◌, ◌++◌}
-use Prim.Native.Nat.{ℕ, zero, suc, ◌+◌, ◌-◌, ◌≤◌, ◌<◌}
+use Prim.Native.Nat.{ℕ, zero, suc, ◌+◌, ◌-◌, ◌/◌, ◌%◌, ◌≤◌, ◌<◌}
 use native.Mathlib.Omega.{arith}
-use lib.ListN.{length, take, drop, get_or, length-append}
+use lib.ListN.{length, take, drop, get_or, length-append, drop_of_length-le}
 use lib.Dec.{leb, eqb, T, leb→le}
 use lib.IntN.{ℤ, pos}
 use borrow.Author.Tests.{ne_eqb, le-ltb, lt-ltb}
-use lib.Seq.{slice, take_at, drop_at}
+use lib.Seq.{slice, take_at, drop_at, drop-cons}
+use native.Mathlib.Numerals.{add-one}
 use Rattle.columns.specs.declared.column.Column.{Column}
 use Rattle.columns.specs.declared.number.Form.{Form}
 use Rattle.columns.specs.declared.group.Group.{Group}
 use Rattle.columns.specs.Answer.{pick}
 use Rattle.columns.specs.Number.{form_width, good_form}
 use Rattle.columns.specs.Column.{Slot, missing, given, Range, Rule, clock_time, calendar_date, Col, numeric, text, letter, group, printed, width, slots, texts, good_group, good_col, good, widths, all_slots, all_texts, in_stretch, brackets_in}
-use Rattle.columns.specs.Table.{column_in, range_at, rule_at, group_at, form_in, col_of, columns_of, sizes_of, sound, Sound, width_by, slots_by, texts_by, slot_of, slots_of, flag_of, value_of, flags_of, values_of, over, Table}
+use Rattle.columns.specs.Table.{column_in, rule_at, group_at, col_of, columns_of, sizes_of, sound, Sound, width_by, slots_by, texts_by, slot_of, slots_of, flag_of, value_of, flags_of, values_of, over, Table}
 use Rattle.columns.proofs.laws.Tests.{T_and, and_T}
-use Rattle.columns.specs.declared.number.Form.TheVariants as N
+use Rattle.columns.specs.declared.column.Column.TheVariants as K
 
--- ---- columns by their kind
-
-module _ (c : Column) (rs : List ℤ) (ls : List ℕ) where
-  pub col_number : c.kind < 2 → col_of c rs ls ≡ numeric (form_in c) c.required (range_at rs c.last)
-  col_number h = rw (lt-ltb _ _ h)
-
-  pub col_integer : c.kind ≡ 0 → col_of c rs ls ≡ numeric (N.Integer c.width) c.required (range_at rs c.last)
-  col_integer e = rw e
-
-  pub col_decimal : c.kind ≡ 1 → col_of c rs ls ≡ numeric (N.Decimal c.width c.place) c.required (range_at rs c.last)
-  col_decimal e = rw e
-
-  -- one that is no number has no range
-  pub col_other : 2 ≤ c.kind → col_of c rs ls ≡ col_of c [] ls
-  col_other h = rw (le-ltb c.kind 2 h)
-
-  pub col_text : c.kind ≡ 2 → col_of c rs ls ≡ text c.width (rule_at c.last)
-  col_text e = rw e
-
-  pub col_letter : c.kind ≡ 3 → col_of c rs ls ≡ letter (slice c.place (c.place + c.last) ls)
-  col_letter e = rw e
-
-  pub col_group : c.kind ≡ 4 → col_of c rs ls ≡ group (group_at c.last)
-  col_group e = rw e
-
-  pub col_printed : 5 ≤ c.kind → col_of c rs ls ≡ printed c.last c.width
-  col_printed h =
-      let a : 2 ≤ c.kind = omega arith in
-      rw (le-ltb _ _ a, ne_eqb c.kind 2 (λ e. omega arith), ne_eqb c.kind 3 (λ e. omega arith), ne_eqb c.kind 4 (λ e. omega arith))
-
-pub form_int : (c : Column) → c.kind ≡ 0 → form_in c ≡ N.Integer c.width
-form_int c e = rw e
-
-pub form_dec : (c : Column) → (c.kind ≡ 0 → ⊥) → form_in c ≡ N.Decimal c.width c.place
-form_dec c n = rw (ne_eqb c.kind 0 n)
+-- ---- what a column of a kind asks for
 
 pub good_number : (c : Col) (m : Form) (q : Bool) (g : Range) → c ≡ numeric m q g → T (good_col c) → T (good_form m)
 good_number c m q g e o = rw e at o
@@ -72,21 +39,6 @@ group_good k = by_number (eqb k 0)
     by_number true = tt
     by_number false = tt
 
-pub data Kind (k : ℕ) : Type 0 where
-  is_number : k < 2 → Kind k
-  is_text_lem : k ≡ 2 → Kind k
-  is_letter : k ≡ 3 → Kind k
-  is_group : k ≡ 4 → Kind k
-  is_printed : 5 ≤ k → Kind k
-
-pub kind_of_lem : (k : ℕ) → Kind k
-kind_of_lem zero = is_number (omega arith)
-kind_of_lem (suc zero) = is_number (omega arith)
-kind_of_lem (suc (suc zero)) = is_text_lem refl
-kind_of_lem (suc (suc (suc zero))) = is_letter refl
-kind_of_lem (suc (suc (suc (suc zero)))) = is_group refl
-kind_of_lem (suc (suc (suc (suc (suc k))))) = is_printed (omega arith)
-
 -- ---- what a column takes, as the code counts it
 
 pub record Sizes (c : Column) (rs : List ℤ) (ls : List ℕ) : Type 0 where
@@ -94,75 +46,60 @@ pub record Sizes (c : Column) (rs : List ℤ) (ls : List ℕ) : Type 0 where
   pub numbers : slots (col_of c rs ls) ≡ slots_by c
   pub chars : texts (col_of c rs ls) ≡ texts_by c
 
-form_width_lem : (c : Column) (t : Bool) → form_width (pick t (N.Integer c.width) (N.Decimal c.width c.place)) ≡ c.width
-form_width_lem c true = refl
-form_width_lem c false = refl
-
-sizes_by : (c : Column) (rs : List ℤ) (ls : List ℕ) → Kind c.kind → Sizes c rs ls
-sizes_by c rs ls (is_number k) =
-    record {
-      wide = rw (col_number c rs ls k, ne_eqb c.kind 3 (λ e. omega arith), ne_eqb c.kind 4 (λ e. omega arith)) (form_width_lem c (eqb c.kind 0));
-      numbers = rw (col_number c rs ls k, lt-ltb _ _ k);
-      chars = rw (col_number c rs ls k, lt-ltb _ _ k);
-    }
-sizes_by c rs ls (is_text_lem k) = record { wide = rw (col_text c rs ls k, k); numbers = rw (col_text c rs ls k, k); chars = rw (col_text c rs ls k, k) }
-sizes_by c rs ls (is_letter k) = record { wide = rw (col_letter c rs ls k, k); numbers = rw (col_letter c rs ls k, k); chars = rw (col_letter c rs ls k, k) }
-sizes_by c rs ls (is_group k) = record { wide = rw (col_group c rs ls k, k); numbers = rw (col_group c rs ls k, k); chars = rw (col_group c rs ls k, k) }
-sizes_by c rs ls (is_printed k) =
-    let a : 2 ≤ c.kind = omega arith in
-    let b : 4 ≤ c.kind = omega arith in
-    record {
-      wide = rw (col_printed c rs ls k, ne_eqb c.kind 3 (λ e. omega arith), ne_eqb c.kind 4 (λ e. omega arith));
-      numbers = rw (col_printed c rs ls k, le-ltb _ _ a, ne_eqb c.kind 4 (λ e. omega arith));
-      chars = rw (col_printed c rs ls k, le-ltb _ _ a, le-ltb _ _ b);
-    }
-
 pub sizes : (c : Column) (rs : List ℤ) (ls : List ℕ) → Sizes c rs ls
-sizes c rs ls = sizes_by c rs ls (kind_of_lem c.kind)
-
--- a number's column knows no letters, text and letters no ranges
-pub number_col : (c : Column) (rs : List ℤ) (ls : List ℕ) → c.kind < 2 → (col_of c rs ls ≡ col_of c rs []) × ((slots (col_of c rs ls) ≡ 1) × (texts (col_of c rs ls) ≡ 0))
-number_col c rs ls h = (col_number c rs ls h ∙ sym (col_number c rs [] h), (rw (col_number c rs ls h), rw (col_number c rs ls h)))
-
-char_by : (c : Column) (rs : List ℤ) (ls : List ℕ) → 2 ≤ c.kind → c.kind < 4 → Kind c.kind → (col_of c rs ls ≡ col_of c [] ls) × ((slots (col_of c rs ls) ≡ 0) × (texts (col_of c rs ls) ≡ width (col_of c rs ls)))
-char_by c rs ls g h (is_number k) = let y : ⊥ = omega arith in absurd y
-char_by c rs ls g h (is_text_lem k) = (col_text c rs ls k ∙ sym (col_text c [] ls k), (rw (col_text c rs ls k), rw (col_text c rs ls k)))
-char_by c rs ls g h (is_letter k) = (col_letter c rs ls k ∙ sym (col_letter c [] ls k), (rw (col_letter c rs ls k), rw (col_letter c rs ls k)))
-char_by c rs ls g h (is_group k) = let y : ⊥ = omega arith in absurd y
-char_by c rs ls g h (is_printed k) = let y : ⊥ = omega arith in absurd y
-
-pub char_col : (c : Column) (rs : List ℤ) (ls : List ℕ) → 2 ≤ c.kind → c.kind < 4 → (col_of c rs ls ≡ col_of c [] ls) × ((slots (col_of c rs ls) ≡ 0) × (texts (col_of c rs ls) ≡ width (col_of c rs ls)))
-char_col c rs ls g h = char_by c rs ls g h (kind_of_lem c.kind)
+sizes (K.Number m q k) rs ls = record { wide = refl; numbers = refl; chars = refl }
+sizes (K.Text w x) rs ls = record { wide = refl; numbers = refl; chars = refl }
+sizes (K.Letter i n) rs ls = record { wide = refl; numbers = refl; chars = refl }
+sizes (K.Group k) rs ls = record { wide = refl; numbers = refl; chars = refl }
+sizes (K.Printed w b) rs ls = record { wide = refl; numbers = refl; chars = refl }
 
 -- ---- the columns from a place on
 
-pub columns_more : (s : List ℕ) (r : List ℤ) (ls : List ℕ) (i n : ℕ) → i < n → columns_of s r ls i (n - i) ≡ col_of (column_in (get_or s i 0)) r ls ∷ columns_of s r ls (i + 1) (n - (i + 1))
-columns_more s r ls i n h = let z : n - i ≡ suc (n - (i + 1)) = omega arith in rw z
+pub columns_more : (s : List ℕ) (r : List ℤ) (ls : List ℕ) (i : ℕ) → i < length s → columns_of (drop i s) r ls ≡ col_of (column_in (get_or s i 0)) r ls ∷ columns_of (drop (i + 1) s) r ls
+columns_more s r ls i h = rw (add-one, drop-cons s i 0)
 
-pub columns_none : (s : List ℕ) (r : List ℤ) (ls : List ℕ) (i n : ℕ) → n ≤ i → columns_of s r ls i (n - i) ≡ []
-columns_none s r ls i n h = let z : n - i ≡ 0 = omega arith in rw z
+pub columns_none : (s : List ℕ) (r : List ℤ) (ls : List ℕ) (i : ℕ) → length s ≤ i → columns_of (drop i s) r ls ≡ []
+columns_none s r ls i h = rw (drop_of_length-le s {i = i} h)
 
-pub columns_length : (s : List ℕ) (r : List ℤ) (ls : List ℕ) (i n : ℕ) → length (columns_of s r ls i n) ≡ n
-columns_length s r ls i zero = refl
-columns_length s r ls i (suc n) = ap suc (columns_length s r ls (i + 1) n)
+pub columns_length : (s : List ℕ) (r : List ℤ) (ls : List ℕ) → length (columns_of s r ls) ≡ length s
+columns_length [] r ls = refl
+columns_length (x ∷ s) r ls = ap suc (columns_length s r ls)
 
-pub columns_append : (s : List ℕ) (r : List ℤ) (ls : List ℕ) (i n m : ℕ) → columns_of s r ls i (n + m) ≡ columns_of s r ls i n ++ columns_of s r ls (i + n) m
-columns_append s r ls i zero m = let z : i + 0 ≡ i = omega arith in let y : 0 + m ≡ m = omega arith in rw (z, y)
-columns_append s r ls i (suc n) m =
-    let z : i + suc n ≡ i + 1 + n = omega arith in
-    let y : suc n + m ≡ suc (n + m) = omega arith in
-    rw (z, y, columns_append s r ls (i + 1) n m)
+pub columns_append : (a b : List ℕ) (r : List ℤ) (ls : List ℕ) → columns_of (a ++ b) r ls ≡ columns_of a r ls ++ columns_of b r ls
+columns_append [] b r ls = refl
+columns_append (x ∷ a) b r ls = ap (λ (cs : List Col). col_of (column_in x) r ls ∷ cs) (columns_append a b r ls)
 
--- a stretch of a table whose columns are known as a whole
-pub columns_among : (s : List ℕ) (r : List ℤ) (ls : List ℕ) (a b c : List Col) → columns_of s r ls 0 (length s) ≡ a ++ (b ++ c) → (length a + length b ≤ length s) × (columns_of s r ls (length a) (length b) ≡ b)
+-- a stretch of a table
+pub columns_take : (s : List ℕ) (r : List ℤ) (ls : List ℕ) (n : ℕ) → columns_of (take n s) r ls ≡ take n (columns_of s r ls)
+columns_take [] r ls zero = refl
+columns_take [] r ls (suc n) = refl
+columns_take (x ∷ s) r ls zero = refl
+columns_take (x ∷ s) r ls (suc n) = ap (λ (cs : List Col). col_of (column_in x) r ls ∷ cs) (columns_take s r ls n)
+
+pub columns_drop : (s : List ℕ) (r : List ℤ) (ls : List ℕ) (n : ℕ) → columns_of (drop n s) r ls ≡ drop n (columns_of s r ls)
+columns_drop [] r ls zero = refl
+columns_drop [] r ls (suc n) = refl
+columns_drop (x ∷ s) r ls zero = refl
+columns_drop (x ∷ s) r ls (suc n) = columns_drop s r ls n
+
+-- one whose columns are known as a whole
+pub columns_among : (s : List ℕ) (r : List ℤ) (ls : List ℕ) (a b c : List Col) → columns_of s r ls ≡ a ++ (b ++ c) → (length a + length b ≤ length s) × (columns_of (take (length b) (drop (length a) s)) r ls ≡ b)
 columns_among s r ls a b c e =
-    let n : length s ≡ length a + (length b + length c) = sym (columns_length s r ls 0 (length s)) ∙ ap length e ∙ length-append a (b ++ c) ∙ omega (arith, length-append b c) in
-    let z : 0 + length a ≡ length a = omega arith in
-    let f : columns_of s r ls 0 (length a) ++ (columns_of s r ls (length a) (length b) ++ columns_of s r ls (length a + length b) (length c)) ≡ a ++ (b ++ c) =
-    sym (rw (n, columns_append s r ls 0 (length a) (length b + length c), z, columns_append s r ls (length a) (length b) (length c))) ∙ e in
-    let g : columns_of s r ls (length a) (length b) ++ columns_of s r ls (length a + length b) (length c) ≡ b ++ c =
-    sym (drop_at (columns_of s r ls 0 (length a)) _ (length a) (columns_length s r ls 0 (length a))) ∙ ap (drop (length a)) f ∙ drop_at a (b ++ c) (length a) refl in
-    (omega arith, sym (take_at (columns_of s r ls (length a) (length b)) _ (length b) (columns_length s r ls (length a) (length b))) ∙ ap (take (length b)) g ∙ take_at b c (length b) refl)
+    let n : length s ≡ length a + (length b + length c) = sym (columns_length s r ls) ∙ ap length e ∙ length-append a (b ++ c) ∙ omega (arith, length-append b c) in
+    (omega arith, columns_take (drop (length a) s) r ls (length b) ∙ ap (take (length b)) (columns_drop s r ls (length a) ∙ ap (drop (length a)) e ∙ drop_at a (b ++ c) (length a) refl) ∙ take_at b c (length b) refl)
+
+-- a column that is no number has no range
+pub col_other : (row : ℕ) (rs : List ℤ) (ls : List ℕ) → 2 ≤ row / 16777216 → col_of (column_in row) rs ls ≡ col_of (column_in row) [] ls
+col_other row rs ls h =
+    rw (ne_eqb (row / 16777216) 0 (λ e. omega arith), ne_eqb (row / 16777216) 1 (λ e. omega arith)) (by_kind (eqb (row / 16777216) 2) (eqb (row / 16777216) 3) (eqb (row / 16777216) 4))
+  where
+    by_kind : (t u v : Bool)
+        → col_of (pick t (K.Text (row / 256 % 128) (rule_at (row % 128))) (pick u (K.Letter (row / 32768 % 512) (row % 128)) (pick v (K.Group (row % 128)) (K.Printed (row / 256 % 128) (row % 128))))) rs ls
+        ≡ col_of (pick t (K.Text (row / 256 % 128) (rule_at (row % 128))) (pick u (K.Letter (row / 32768 % 512) (row % 128)) (pick v (K.Group (row % 128)) (K.Printed (row / 256 % 128) (row % 128))))) [] ls
+    by_kind true u v = refl
+    by_kind false true v = refl
+    by_kind false false true = refl
+    by_kind false false false = refl
 
 -- ---- the numbers of a record
 

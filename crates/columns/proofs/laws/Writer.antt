@@ -10,88 +10,54 @@ use lib.IntN.{ℤ}
 use borrow.Author.Tests.{le-ltb, lt-ltb}
 use lib.Seq.{slice, take_all, length-take-le, drop-drop, take-add, drop-cons, get_or-take, get_or-drop}
 use borrow.Rule.Slice.PartMut.{mid_of, put_mid, mid_len, put_same}
-use Rattle.columns.specs.declared.Outcome.{Outcome}
 use Rattle.columns.specs.declared.column.Column.{Column}
 use Rattle.columns.specs.declared.number.Form.{Form}
-use Rattle.columns.specs.Answer.{pick, Answer, ok, refusal, both, wrong_letter, too_short}
+use Rattle.std.specs.Prelude.{Ok, Err}
+use Rattle.columns.specs.declared.Refusal.{Refusal}
+use Rattle.columns.specs.declared.group.Group.{Group}
+use Rattle.columns.specs.Answer.{refusal_at, pick, Answer, ok, refusal, both, wrong_letter, too_short}
 use Rattle.columns.specs.Bytes.{member}
-use Rattle.columns.specs.Column.{Slot, missing, Range, allowed, Rule, rule_bars, Col, numeric, text, letter, printed, width, slots, texts, good, widths, all_slots, all_texts}
+use Rattle.columns.specs.Column.{Slot, missing, Range, allowed, Rule, rule_bars, Col, numeric, group, width, slots, texts, good, widths, all_slots, all_texts}
 use Rattle.columns.specs.Group.{put_group}
 use Rattle.columns.specs.Reading.{rule_refuses, rule_number, judge_text}
 use Rattle.columns.specs.Writing.{put_number, put_text, write_cell, write_columns, write_line, write_part}
-use Rattle.columns.specs.Table.{column_in, rule_at, group_at, col_of, columns_of, over, outcome_of, Wrote, WrotePart, Ready, Table, placed}
-use Rattle.columns.proofs.laws.Table.{Kind, kind_of_lem, is_number, is_text_lem, is_letter, is_group, is_printed, col_text, col_letter, col_group, col_printed, number_col, char_col, columns_more, columns_none, table_good, table_fits, table_low, table_numbers, table_chars, table_line, table_next}
+use Rattle.columns.specs.Table.{Outcome, column_in, col_of, columns_of, over, outcome_of, Wrote, WrotePart, Ready, Table, placed}
+use Rattle.columns.proofs.laws.Table.{columns_more, columns_none, table_good, table_fits, table_low, table_numbers, table_chars, table_line, table_next}
 use Rattle.columns.proofs.laws.Answers.{split, over_whole, refused_of, done_of, wrote_refused, wrote_same, wrote_bytes, wrote_whole}
 use Rattle.columns.proofs.laws.Places.{placed_none, placed_length, placed_placed, placed_take, part_placed}
-use Rattle.columns.proofs.laws.Rules.{rule_bars_lem}
 use Rattle.columns.proofs.laws.Columns.{cell_written, columns_size}
-use Rattle.columns.specs.declared.Outcome.TheVariants as O
 
 -- ---- the answer of each kind of column
 
-module _ (seen : List Slot) (at : ℕ) (ns : List Slot) (t : List ℕ) (c : Col) where
-  pub cell_number : (m : Form) (q : Bool) (g : Range) → c ≡ numeric m q g → put_number m q (allowed g seen) at (get_or ns 0 missing) ≡ write_cell c seen at ns t
-  unfolding write_cell
-  cell_number m q g e = rw e
+-- text by its rule
+module _ (x : Rule) (at n : ℕ) (t : List ℕ) (told : Bool) (g : told ≡ rule_refuses x (slice 0 n t)) (h : n ≡ length t) where
+  told_of : rule_refuses x t ≡ told
+  told_of = sym (g ∙ ap (rule_refuses x) (take_all n t (omega arith)))
 
-  pub cell_text : (w : ℕ) (x : Rule) → c ≡ text w x → judge_text x at t (put_text (rule_bars x) at t (ok t)) ≡ write_cell c seen at ns t
-  unfolding write_cell
-  cell_text w x e = rw e
-
-  pub cell_letter : (s : List ℕ) → c ≡ letter s → put_text false at t (pick (member (get_or t 0 0) s) (ok t) (refusal wrong_letter (at + 1))) ≡ write_cell c seen at ns t
-  unfolding write_cell
-  cell_letter s e = rw e
-
-  cell_printed : (b w : ℕ) → c ≡ printed b w → ok (replicate w b) ≡ write_cell c seen at ns t
-  unfolding write_cell
-  cell_printed b w e = rw e
-
--- text by the number of its rule, as the code comes to it
-module _ (k at n : ℕ) (t : List ℕ) (told : Bool) (g : told ≡ rule_refuses (rule_at k) (slice 0 n t)) (h : n ≡ length t) where
-  told_of : rule_refuses (rule_at k) t ≡ told
-  told_of = sym (g ∙ ap (rule_refuses (rule_at k)) (take_all n t (omega arith)))
-
-  pub rule_refused : told ≡ true → judge_text (rule_at k) at t (put_text (rule_bars (rule_at k)) at t (ok t)) ≡ refusal (rule_number (rule_at k)) (at + 1)
+  pub rule_refused : told ≡ true → judge_text x at t (put_text (rule_bars x) at t (ok t)) ≡ refusal (rule_number x) (at + 1)
   rule_refused e = rw (told_of ∙ e)
 
-  pub rule_there : told ≡ false → put_text (eqb k 1) at t (ok t) ≡ judge_text (rule_at k) at t (put_text (rule_bars (rule_at k)) at t (ok t))
-  rule_there e = rw (told_of ∙ e, rule_bars_lem k)
+  pub rule_there : told ≡ false → put_text (rule_bars x) at t (ok t) ≡ judge_text x at t (put_text (rule_bars x) at t (ok t))
+  rule_there e = rw (told_of ∙ e)
 
 -- ---- a column at its places of the record
-
-blind : (c : Column) (rs : List ℤ) (ls : List ℕ) (a b : List Slot) (at : ℕ) (ns : List Slot) (t : List ℕ) → 2 ≤ c.kind → c.kind < 4 → Kind c.kind → write_cell (col_of c rs ls) a at ns t ≡ write_cell (col_of c rs ls) b at ns t
-unfolding write_cell
-blind c rs ls a b at ns t h l (is_number k) = let y : ⊥ = omega arith in absurd y
-blind c rs ls a b at ns t h l (is_text_lem k) = rw (col_text c rs ls k)
-blind c rs ls a b at ns t h l (is_letter k) = rw (col_letter c rs ls k)
-blind c rs ls a b at ns t h l (is_group k) = let y : ⊥ = omega arith in absurd y
-blind c rs ls a b at ns t h l (is_printed k) = let y : ⊥ = omega arith in absurd y
 
 take_one : (S : List Slot) (k : ℕ) → k < length S → take 1 (drop k S) ≡ get_or S k missing ∷ []
 take_one S k h = rw (drop-cons S k missing h)
 
-module _ (c : Column) (rs : List ℤ) (ls : List ℕ) (at k t : ℕ) (S : List Slot) (chs : List ℕ) where
-  pub at_number : c.kind < 2 → k < length S → (x : Slot) → get_or S k missing ≡ x → write_cell (col_of c rs []) (take k S) at (x ∷ []) [] ≡ write_cell (col_of c rs ls) (take k S) at (take (slots (col_of c rs ls)) (drop k S)) (take (texts (col_of c rs ls)) (drop t chs))
-  at_number h g x e =
-      let n = number_col c rs ls h in
-      rw (n.1.0, n.1.1, n.0, take_one S k g, e)
-
-  pub at_chars : 2 ≤ c.kind → c.kind < 4 → (ys : List ℕ) → ys ≡ take (texts (col_of c rs ls)) (drop t chs) → write_cell (col_of c [] ls) [] at [] ys ≡ write_cell (col_of c rs ls) (take k S) at (take (slots (col_of c rs ls)) (drop k S)) (take (texts (col_of c rs ls)) (drop t chs))
-  at_chars g h ys e =
-      let n = char_col c rs ls g h in
-      rw (n.1.0, ← e, ← n.0) (blind c rs ls [] (take k S) at [] ys g h (kind_of_lem c.kind))
-
-  pub at_group : c.kind ≡ 4 → put_group (group_at c.last) (take k S) at (get_or S k missing) (get_or S (k + 1) missing) (get_or S (k + 2) missing) ≡ write_cell (col_of c rs ls) (take k S) at (take (slots (col_of c rs ls)) (drop k S)) (take (texts (col_of c rs ls)) (drop t chs))
+module _ (at k t : ℕ) (S : List Slot) (chs : List ℕ) where
+  pub at_number : (m : Form) (q : Bool) (g : Range) → k < length S → put_number m q (allowed g (take k S)) at (get_or S k missing) ≡ write_cell (numeric m q g) (take k S) at (take 1 (drop k S)) (take 0 (drop t chs))
   unfolding write_cell
-  at_group h =
+  at_number m q g h = rw (take_one S k h)
+
+  pub at_group : (g : Group) → put_group g (take k S) at (get_or S k missing) (get_or S (k + 1) missing) (get_or S (k + 2) missing) ≡ write_cell (group g) (take k S) at (take 3 (drop k S)) (take 0 (drop t chs))
+  unfolding write_cell
+  at_group g =
       let z : k + 0 ≡ k = omega arith in
       let a : get_or (take 3 (drop k S)) 0 missing ≡ get_or S k missing = get_or-take 3 (drop k S) 0 missing (omega arith) ∙ get_or-drop k S 0 missing ∙ rw z in
       let b : get_or (take 3 (drop k S)) 1 missing ≡ get_or S (k + 1) missing = get_or-take 3 (drop k S) 1 missing (omega arith) ∙ get_or-drop k S 1 missing in
       let d : get_or (take 3 (drop k S)) 2 missing ≡ get_or S (k + 2) missing = get_or-take 3 (drop k S) 2 missing (omega arith) ∙ get_or-drop k S 2 missing in
-      rw (col_group c rs ls h, a, b, d)
-
-  pub at_printed : 5 ≤ c.kind → ok (replicate c.width c.last) ≡ write_cell (col_of c rs ls) (take k S) at (take (slots (col_of c rs ls)) (drop k S)) (take (texts (col_of c rs ls)) (drop t chs))
-  at_printed h = cell_printed (take k S) at _ _ (col_of c rs ls) c.last c.width (col_printed c rs ls h)
+      rw (a, b, d)
 
 -- ---- lines in two parts
 
@@ -140,14 +106,14 @@ module _ {cs : List Col} {start : ℕ} {S : List Slot} {chs out₀ : List ℕ} {
   going_part : (r : Outcome) (a : Answer (List ℕ)) → write_columns cs [] start S chs ≡ a → write_part cs [] start S chs ≡ g.done → r ≡ outcome_of a → WrotePart (write_columns cs [] start S chs) (write_part cs [] start S chs) start r out₀ out
   going_part r a e p q = record { answer = rw e q; bytes = rw p g.bytes }
 
-pub going_end : {cs : List Col} {start : ℕ} {S : List Slot} {chs out₀ : List ℕ} {nv : ℕ} {at k t : ℕ} {out : List ℕ} → Going cs start S chs out₀ nv [] at k t out → WrotePart (write_columns cs [] start S chs) (write_part cs [] start S chs) start O.Done out₀ out
+pub going_end : {cs : List Col} {start : ℕ} {S : List Slot} {chs out₀ : List ℕ} {nv : ℕ} {at k t : ℕ} {out : List ℕ} → Going cs start S chs out₀ nv [] at k t out → WrotePart (write_columns cs [] start S chs) (write_part cs [] start S chs) start (Ok tt) out₀ out
 unfolding write_columns write_part
-going_end g = going_part g O.Done (ok g.done) (g.wrote ∙ ap ok (append-nil g.done)) (g.part ∙ append-nil g.done) refl
+going_end g = going_part g (Ok tt) (ok g.done) (g.wrote ∙ ap ok (append-nil g.done)) (g.part ∙ append-nil g.done) refl
 
 module _ {cs : List Col} {start : ℕ} {S : List Slot} {chs out₀ : List ℕ} {nv : ℕ} {c : Col} {rest : List Col} {at k t : ℕ} {out : List ℕ} (g : Going cs start S chs out₀ nv (c ∷ rest) at k t out) where
-  module _ (w : ℕ) (e : w ≡ width c) where
+  module _ (w : ℕ) (u : w ≡ width c) where
     pub turn_fits : at + w ≤ length out
-    turn_fits = omega (arith, out_size g, table_fits g.ready w e)
+    turn_fits = omega (arith, out_size g, table_fits g.ready w u)
 
     pub turn_mid : length (mid_of at (at + w - at) out) ≡ w
     turn_mid =
@@ -158,21 +124,21 @@ module _ {cs : List Col} {start : ℕ} {S : List Slot} {chs out₀ : List ℕ} {
     turn_ready nf l =
         record {
           fine = (table_good g.ready).0;
-          wide = turn_mid ∙ e;
-          low = omega (arith, turn_mid, table_low g.ready w e);
+          wide = turn_mid ∙ u;
+          low = omega (arith, turn_mid, table_low g.ready w u);
           same = sym l ∙ g.ready.same;
           numbers = omega (arith, table_numbers g.ready);
           chars = omega (arith, table_chars g.ready);
         }
 
     module _ {mid : List ℕ} where
-      pub turn_refused : (m j : ℕ) → Wrote (write_cell c (take k S) at (take (slots c) (drop k S)) (take (texts c) (drop t chs))) (O.Refused m j) (mid_of at (at + w - at) out) mid → WrotePart (write_columns cs [] start S chs) (write_part cs [] start S chs) start (O.Refused m j) out₀ (put_mid at (at + w - at) out mid)
+      pub turn_refused : (e : Refusal) → Wrote (write_cell c (take k S) at (take (slots c) (drop k S)) (take (texts c) (drop t chs))) (Err e) (mid_of at (at + w - at) out) mid → WrotePart (write_columns cs [] start S chs) (write_part cs [] start S chs) start (Err e) out₀ (put_mid at (at + w - at) out mid)
       unfolding write_columns write_part
-      turn_refused m j s =
-          let q = refused_of (write_cell c (take k S) at (take (slots c) (drop k S)) (take (texts c) (drop t chs))) m j s.answer in
-          let b : mid ≡ mid_of at (at + w - at) out = wrote_same s m j q in
+      turn_refused e s =
+          let q = refused_of (write_cell c (take k S) at (take (slots c) (drop k S)) (take (texts c) (drop t chs))) e s.answer in
+          let b : mid ≡ mid_of at (at + w - at) out = wrote_same s e.reason e.column q in
           let o : put_mid at (at + w - at) out mid ≡ out = rw b (put_same at (at + w - at) out) in
-          rw o (going_part g (O.Refused m j) (refusal m j) (g.wrote ∙ rw q) (g.part ∙ rw q (append-nil g.done)) refl)
+          rw o (going_part g (Err e) (refusal e.reason e.column) (g.wrote ∙ rw q) (g.part ∙ rw q (append-nil g.done)) refl)
 
       turn_wrote : (at₁ k₁ t₁ : ℕ) → at₁ ≡ at + width c → k₁ ≡ k + slots c → t₁ ≡ t + texts c → (ys : List ℕ) → length ys ≡ width c → write_cell c (take k S) at (take (slots c) (drop k S)) (take (texts c) (drop t chs)) ≡ ok ys → mid ≡ ys → Going cs start S chs out₀ nv rest at₁ k₁ t₁ (put_mid at (at + w - at) out mid)
       unfolding write_columns write_part
@@ -199,7 +165,7 @@ module _ {cs : List Col} {start : ℕ} {S : List Slot} {chs out₀ : List ℕ} {
                 (sym (append_assoc g.done ys (write_part rest (take k S ++ take (slots c) (drop k S)) (at + width c) (drop (k + slots c) S) (drop (t + texts c) chs)))));
           }
 
-      pub turn_done : (at₁ k₁ t₁ : ℕ) → at₁ ≡ at + width c → k₁ ≡ k + slots c → t₁ ≡ t + texts c → Wrote (write_cell c (take k S) at (take (slots c) (drop k S)) (take (texts c) (drop t chs))) O.Done (mid_of at (at + w - at) out) mid → Going cs start S chs out₀ nv rest at₁ k₁ t₁ (put_mid at (at + w - at) out mid)
+      pub turn_done : (at₁ k₁ t₁ : ℕ) → at₁ ≡ at + width c → k₁ ≡ k + slots c → t₁ ≡ t + texts c → Wrote (write_cell c (take k S) at (take (slots c) (drop k S)) (take (texts c) (drop t chs))) (Ok tt) (mid_of at (at + w - at) out) mid → Going cs start S chs out₀ nv rest at₁ k₁ t₁ (put_mid at (at + w - at) out mid)
       turn_done at₁ k₁ t₁ ea ek et s =
           let d = done_of (write_cell c (take k S) at (take (slots c) (drop k S)) (take (texts c) (drop t chs))) s.answer in
           let lk : length (take (slots c) (drop k S)) ≡ slots c = length-take-le (slots c) (drop k S) (omega (arith, length-drop k S, table_numbers g.ready)) in
@@ -208,41 +174,30 @@ module _ {cs : List Col} {start : ℕ} {S : List Slot} {chs out₀ : List ℕ} {
           turn_wrote at₁ k₁ t₁ ea ek et d.value v.size d.is
           (wrote_bytes s d.value d.is ∙ over_whole d.value (mid_of at (at + w - at) out) (omega (arith, v.size, turn_mid)))
 
--- a printed byte takes nothing of the record
-pub turn_printed : (c : Column) (rs : List ℤ) (ls : List ℕ) {cs : List Col} {start : ℕ} {S : List Slot} {chs out₀ : List ℕ} {nv : ℕ} {rest : List Col} {at k t : ℕ} {out mid : List ℕ} → Going cs start S chs out₀ nv (col_of c rs ls ∷ rest) at k t out → (w : ℕ) → w ≡ width (col_of c rs ls) → 5 ≤ c.kind → mid ≡ replicate (length (mid_of at (at + w - at) out)) c.last → Going cs start S chs out₀ nv rest (at + w) k t (put_mid at (at + w - at) out mid)
-turn_printed c rs ls {S = S} {chs = chs} {at = at} {k = k} {t = t} g w q h b =
-    let e = col_printed c rs ls h in
-    let z : width (col_of c rs ls) ≡ c.width = rw e in
-    let no : slots (col_of c rs ls) ≡ 0 = rw e in
-    let none : texts (col_of c rs ls) ≡ 0 = rw e in
-    turn_wrote g w q (at + w) k t (omega (arith, q)) (omega (arith, no)) (omega (arith, none)) (replicate c.width c.last) (length-replicate c.width c.last ∙ sym z) (sym (at_printed c rs ls at k t S chs h)) (b ∙ ap (λ (m : ℕ). replicate m c.last) (turn_mid g w q ∙ q ∙ z))
-
-module _ (s : List ℕ) (r : List ℤ) (ls : List ℕ) (i n : ℕ) {cs : List Col} {start : ℕ} {S : List Slot} {chs out₀ : List ℕ} {nv : ℕ} {at k t : ℕ} {out : List ℕ} where
+module _ (s : List ℕ) (r : List ℤ) (ls : List ℕ) (i : ℕ) {cs : List Col} {start : ℕ} {S : List Slot} {chs out₀ : List ℕ} {nv : ℕ} {at k t : ℕ} {out : List ℕ} where
   -- the next row of the table
-  pub going_row : (row : Column) → i < n → row ≡ column_in (get_or s i 0) → Going cs start S chs out₀ nv (columns_of s r ls i (n - i)) at k t out → Going cs start S chs out₀ nv (col_of row r ls ∷ columns_of s r ls (i + 1) (n - (i + 1))) at k t out
-  going_row row h e g = rw (e, ← columns_more s r ls i n h) g
+  pub going_row : (row : Column) → i < length s → row ≡ column_in (get_or s i 0) → Going cs start S chs out₀ nv (columns_of (drop i s) r ls) at k t out → Going cs start S chs out₀ nv (col_of row r ls ∷ columns_of (drop (i + 1) s) r ls) at k t out
+  going_row row h e g = rw (e, ← columns_more s r ls i h) g
 
-  pub going_last : n ≤ i → Going cs start S chs out₀ nv (columns_of s r ls i (n - i)) at k t out → Going cs start S chs out₀ nv [] at k t out
-  going_last h g = rw (← columns_none s r ls i n h) g
+  pub going_last : length s ≤ i → Going cs start S chs out₀ nv (columns_of (drop i s) r ls) at k t out → Going cs start S chs out₀ nv [] at k t out
+  going_last h g = rw (← columns_none s r ls i h) g
 
 -- ---- a line of its own, over the lent bytes
 
 module _ (cs : List Col) (S : List Slot) (chs from : List ℕ) where
-  pub line_short : length from < widths cs → Wrote (write_line cs S chs (length from)) (O.Refused too_short 0) from from
+  pub line_short : length from < widths cs → Wrote (write_line cs S chs (length from)) (Err (refusal_at too_short 0)) from from
   unfolding write_line
   line_short h = wrote_refused _ from too_short 0 (rw (lt-ltb _ _ h))
 
   module _ {line line₁ : List ℕ} (h : widths cs ≤ length from) where
-    pub line_refused : (r : Outcome) (m j : ℕ) (to : List ℕ) (n : ℕ) → r ≡ O.Refused m j → WrotePart (write_columns cs [] 0 S chs) (write_part cs [] 0 S chs) 0 r line line₁ → n ≡ 0 → to ≡ over (take n line₁) from → Wrote (write_line cs S chs (length from)) r from to
+    pub line_refused : (e : Refusal) → WrotePart (write_columns cs [] 0 S chs) (write_part cs [] 0 S chs) 0 (Err e) line line₁ → Wrote (write_line cs S chs (length from)) (Err e) from from
     unfolding write_line
-    line_refused r m j to n e p z q =
-        let f : to ≡ from = q ∙ rw z in
-        rw (e, f) (wrote_refused _ from m j (rw (le-ltb _ _ h) (refused_of (write_columns cs [] 0 S chs) m j (sym e ∙ p.answer))))
+    line_refused e p = wrote_refused _ from e.reason e.column (rw (le-ltb _ _ h) (refused_of (write_columns cs [] 0 S chs) e p.answer))
 
-    pub line_done : (r : Outcome) (to : List ℕ) (n : ℕ) → T (good cs) → all_slots cs ≤ length S → all_texts cs ≤ length chs → widths cs ≤ length line → r ≡ O.Done → WrotePart (write_columns cs [] 0 S chs) (write_part cs [] 0 S chs) 0 r line line₁ → n ≡ widths cs → to ≡ over (take n line₁) from → Wrote (write_line cs S chs (length from)) r from to
+    pub line_done : (to : List ℕ) (n : ℕ) → T (good cs) → all_slots cs ≤ length S → all_texts cs ≤ length chs → widths cs ≤ length line → WrotePart (write_columns cs [] 0 S chs) (write_part cs [] 0 S chs) 0 (Ok tt) line line₁ → n ≡ widths cs → to ≡ over (take n line₁) from → Wrote (write_line cs S chs (length from)) (Ok tt) from to
     unfolding write_line
-    line_done r to n g a b l e p z q =
-        let d = done_of (write_columns cs [] 0 S chs) (sym e ∙ p.answer) in
+    line_done to n g a b l p z q =
+        let d = done_of (write_columns cs [] 0 S chs) p.answer in
         let v = columns_size cs [] 0 S chs d.value g a b d.is in
         let t : take n line₁ ≡ d.value =
         ap (λ (m : ℕ). take m line₁) z
@@ -250,4 +205,4 @@ module _ (cs : List Col) (S : List Slot) (chs from : List ℕ) where
         ∙ placed_take 0 (widths cs) d.value line (omega (arith, v)) l in
         let f : to ≡ over d.value from = q ∙ ap (λ (x : List ℕ). over x from) t in
         let w : write_line cs S chs (length from) ≡ ok d.value = rw (le-ltb _ _ h) d.is in
-        rw e (wrote_whole w f)
+        wrote_whole w f

@@ -1,4 +1,7 @@
 -- Laws of reading a block, over its header and the reader of its lines: what one line adds, and the lines from a place on.
+use Rattle.std.specs.Prelude.{Ok, Err}
+use Rattle.formats.specs.Refused.{refused_at}
+use Rattle.formats.specs.Block.{read_as}
 use Prim.Native.Nat.{ℕ, suc, ◌+◌, ◌-◌, ◌≤◌, ◌<◌}
 use mathlib.Core.Path.{◌≡◌, refl, sym, ap, ◌∙◌}
 use mathlib.Core.Bool.{Bool, true, false}
@@ -10,27 +13,29 @@ use lib.ListN.{length, take, drop}
 use borrow.Author.Tests.{lt-ltb, le-ltb}
 use Rattle.columns.specs.Answer.{pick, Answer, ok, refusal, wrong_length}
 use Rattle.columns.specs.Column.{Rec}
-use Rattle.columns.specs.Table.{outcome_of}
 use Rattle.formats.specs.Lines.{lines_of, line_end}
 use Rattle.formats.specs.Block.{Kind, closing, comment, row, kind_of, is_header, read_comment, out_of_place, plus, on_line, with_newline, read_line, read_lines, read_headed, at_most, read_block_by}
 use Rattle.formats.specs.BlockSteps.{counted, step_of}
 use Rattle.formats.specs.BlockReader.{line_of, next_of}
 use Rattle.formats.proofs.laws.Lines.{lt_or_le, lines_none}
 use Rattle.formats.proofs.laws.BlockReader.{past_newline_lem, past_end, after_line, lines_past, used_next, FoundAt, line_is, next_after}
-use Rattle.formats.specs.declared.block.Block.{Block}
-use Rattle.formats.specs.declared.block.Block.TheVariants as B
-use Rattle.formats.specs.declared.block.Step.{Step}
-use Rattle.formats.specs.declared.block.Step.TheVariants as S
+use Rattle.formats.specs.Block.{Block}
+use Rattle.columns.specs.declared.Refusal.{Refusal}
+use Rattle.std.specs.Prelude.{Option, Some, None, Result}
+
+-- what the code comes to at a line
+abbrev Step : Type 0
+Step = Result (Option (ℕ × ℕ)) Refusal
 
 -- ---- adding to an answer
 
 pub plus_plus : (p k u q j v : ℕ) (x : Block) → plus p k u (plus q j v x) ≡ plus (p + q) (k + j) (u + v) x
-plus_plus p k u q j v (B.Read a b c) =
-    let d : p + (q + a) ≡ p + q + a = omega arith in
-    let e : k + (j + b) ≡ k + j + b = omega arith in
-    let f : u + (v + c) ≡ u + v + c = omega arith in
+plus_plus p k u q j v (Ok x) =
+    let d : p + (q + x.rows) ≡ p + q + x.rows = omega arith in
+    let e : k + (j + x.comments) ≡ k + j + x.comments = omega arith in
+    let f : u + (v + x.used) ≡ u + v + x.used = omega arith in
     rw (d, e, f)
-plus_plus p k u q j v (B.Refused n c l) = refl
+plus_plus p k u q j v (Err e) = refl
 
 -- no lines left: no more bytes are used than there are
 capped : (size u : ℕ) → size ≤ u → pick (ltb size u) size u ≡ size
@@ -45,12 +50,12 @@ module _ (header : List ℕ) (read : List ℕ → Answer Rec) where
 
     -- what a step comes to
     abbrev stepped : Step → Block
-    stepped (S.Refused number column) = B.Refused number column n
-    stepped S.Closing = B.Read p k (u + with_newline l)
-    stepped (S.Counted q j) = plus q j (u + with_newline l) (rest (ltb 0 q))
+    stepped (Err e) = refused_at e.reason e.column n
+    stepped (Ok None) = read_as p k (u + with_newline l)
+    stepped (Ok (Some (q, j))) = plus q j (u + with_newline l) (rest (ltb 0 q))
 
     -- a judged line, which adds i rows and m comments
-    judged : {A : Type 0} (i m q j : ℕ) (s : Bool) (a : Answer A) → p + i ≡ q → k + m ≡ j → s ≡ ltb 0 q → plus p k u (on_line n a (plus i m (with_newline l) (rest s))) ≡ stepped (counted (outcome_of a) q j)
+    judged : {A : Type 0} (i m q j : ℕ) (s : Bool) (a : Answer A) → p + i ≡ q → k + m ≡ j → s ≡ ltb 0 q → plus p k u (on_line n a (plus i m (with_newline l) (rest s))) ≡ stepped (counted a q j)
     judged i m q j s (ok x) d e f = plus_plus p k u i m (with_newline l) (rest s) ∙ rw (d, e, f)
     judged i m q j s (refusal number column) d e f = refl
 
@@ -61,7 +66,7 @@ module _ (header : List ℕ) (read : List ℕ → Answer Rec) where
 
   -- ---- the lines from a place on
 
-  none_capped : (size p k u n : ℕ) (s : Bool) (ls : List (List ℕ)) → ls ≡ [] → size ≤ u → at_most size (plus p k u (read_lines read n s ls)) ≡ B.Read p k size
+  none_capped : (size p k u n : ℕ) (s : Bool) (ls : List (List ℕ)) → ls ≡ [] → size ≤ u → at_most size (plus p k u (read_lines read n s ls)) ≡ read_as p k size
   unfolding read_lines
   none_capped size p k u n s ls e h =
       let a : p + 0 ≡ p = omega arith in
@@ -81,10 +86,10 @@ module _ (header : List ℕ) (read : List ℕ → Answer Rec) where
 
   -- ---- a turn at a place: line `line`, after p row lines and k comments
 
-  pub turn_end : (b : List ℕ) (at line p k : ℕ) (s : Bool) → at ≤ length b → length b ≤ at → at_most (length b) (plus p k at (read_lines read line s (lines_of (drop at b)))) ≡ B.Read p k at
+  pub turn_end : (b : List ℕ) (at line p k : ℕ) (s : Bool) → at ≤ length b → length b ≤ at → at_most (length b) (plus p k at (read_lines read line s (lines_of (drop at b)))) ≡ read_as p k at
   turn_end b at line p k s h g =
       let e : length b ≡ at = omega (arith, h, g) in
-      none_capped (length b) p k at line s (lines_of (drop at b)) (lines_none b at g) g ∙ ap (B.Read p k) e
+      none_capped (length b) p k at line s (lines_of (drop at b)) (lines_none b at g) g ∙ ap (read_as p k) e
 
   module _ (b : List ℕ) (at : ℕ) (h : at < length b) (line p k : ℕ) where
     told_here : plus p k at (read_lines read line (ltb 0 p) (lines_of (drop at b))) ≡ told line at p k (line_of b at) (λ s. read_lines read (suc line) s (lines_of (drop (next_of b at) b))) (kind_of (line_of b at))
@@ -92,9 +97,9 @@ module _ (header : List ℕ) (read : List ℕ → Answer Rec) where
     told_here = rw (lines_past b at h)
 
     abbrev pub turned : Step → Block
-    turned (S.Refused number column) = B.Refused number column line
-    turned S.Closing = B.Read p k (next_of b at)
-    turned (S.Counted q j) = at_most (length b) (plus q j (next_of b at) (read_lines read (line + 1) (ltb 0 q) (lines_of (drop (next_of b at) b))))
+    turned (Err e) = refused_at e.reason e.column line
+    turned (Ok None) = read_as p k (next_of b at)
+    turned (Ok (Some (q, j))) = at_most (length b) (plus q j (next_of b at) (read_lines read (line + 1) (ltb 0 q) (lines_of (drop (next_of b at) b))))
 
     pub turn : (s : Step) → step_of read (kind_of (line_of b at)) p k (line_of b at) ≡ s → at_most (length b) (plus p k at (read_lines read line (ltb 0 p) (lines_of (drop at b)))) ≡ turned s
     turn s e = ap (at_most (length b)) (told_here ∙ kind_told line at p k (line_of b at) rest (kind_of (line_of b at)) ∙ ap (stepped line at p k (line_of b at) rest) e) ∙ by_step s
@@ -103,9 +108,9 @@ module _ (header : List ℕ) (read : List ℕ → Answer Rec) where
         rest s = read_lines read (suc line) s (lines_of (drop (next_of b at) b))
 
         by_step : (s : Step) → at_most (length b) (stepped line at p k (line_of b at) rest s) ≡ turned s
-        by_step (S.Refused number column) = refl
-        by_step S.Closing = ap (λ (u : ℕ). at_most (length b) (B.Read p k u)) (after_line b at h) ∙ ap (B.Read p k) (used_next b at h (lt_or_le (line_end b at) (length b)))
-        by_step (S.Counted q j) =
+        by_step (Err e) = refl
+        by_step (Ok None) = ap (λ (u : ℕ). at_most (length b) (read_as p k u)) (after_line b at h) ∙ ap (read_as p k) (used_next b at h (lt_or_le (line_end b at) (length b)))
+        by_step (Ok (Some (q, j))) =
             let m : suc line ≡ line + 1 = omega arith in
             ap (λ (u : ℕ). at_most (length b) (plus q j u (rest (ltb 0 q)))) (after_line b at h)
             ∙ next_capped b at h (lt_or_le (line_end b at) (length b)) q j (suc line) (ltb 0 q)
@@ -113,7 +118,7 @@ module _ (header : List ℕ) (read : List ℕ → Answer Rec) where
 
   -- ---- the first line
 
-  pub block_long : (b : List ℕ) → 65536 < length b → read_block_by header read b ≡ B.Refused wrong_length 0 0
+  pub block_long : (b : List ℕ) → 65536 < length b → read_block_by header read b ≡ refused_at wrong_length 0 0
   unfolding read_block_by
   block_long b h = rw (lt-ltb 65536 (length b) h)
 
@@ -122,16 +127,16 @@ module _ (header : List ℕ) (read : List ℕ → Answer Rec) where
     unfolding read_block_by
     block_headed = rw (le-ltb 65536 (length b) low)
 
-    pub block_none : length b ≤ 0 → read_block_by header read b ≡ B.Refused out_of_place 0 1
+    pub block_none : length b ≤ 0 → read_block_by header read b ≡ refused_at out_of_place 0 1
     unfolding read_headed
     block_none h = block_headed ∙ ap (λ (ls : List (List ℕ)). at_most (length b) (read_headed header read ls)) (lines_none b 0 h)
 
     module _ (h : 0 < length b) where
-      first_read : read_block_by header read b ≡ at_most (length b) (pick (is_header header (line_of b 0)) (plus 0 0 (with_newline (line_of b 0)) (read_lines read 2 false (lines_of (drop (next_of b 0) b)))) (B.Refused out_of_place 0 1))
+      first_read : read_block_by header read b ≡ at_most (length b) (pick (is_header header (line_of b 0)) (plus 0 0 (with_newline (line_of b 0)) (read_lines read 2 false (lines_of (drop (next_of b 0) b)))) (refused_at out_of_place 0 1))
       unfolding read_headed
       first_read = block_headed ∙ ap (λ (ls : List (List ℕ)). at_most (length b) (read_headed header read ls)) (lines_past b 0 h)
 
-      pub block_other : is_header header (line_of b 0) ≡ false → read_block_by header read b ≡ B.Refused out_of_place 0 1
+      pub block_other : is_header header (line_of b 0) ≡ false → read_block_by header read b ≡ refused_at out_of_place 0 1
       block_other e = first_read ∙ rw e
 
       pub block_lines : is_header header (line_of b 0) ≡ true → read_block_by header read b ≡ at_most (length b) (plus 0 0 (next_of b 0) (read_lines read 2 false (lines_of (drop (next_of b 0) b))))
@@ -148,14 +153,21 @@ module _ (header : List ℕ) (read : List ℕ → Answer Rec) where
     pub comments : k ≤ at
     pub same : at_most (length b) (plus 0 0 from (read_lines read 2 false (lines_of (drop from b)))) ≡ at_most (length b) (plus p k at (read_lines read line (ltb 0 p) (lines_of (drop at b))))
 
-  pub reading_start : (b : List ℕ) (from : ℕ) → from ≤ length b → Reading b from from 2 0 0
-  reading_start b from h = record { inside = h; lines = omega arith; rows = omega arith; comments = omega arith; same = refl }
+  abbrev rows_in : Step → ℕ
+  rows_in (Ok (Some (q, j))) = q
+  rows_in (Ok None) = 0
+  rows_in (Err e) = 0
 
-  counted_low : {A : Type 0} (a : Answer A) (p k q j : ℕ) → counted (outcome_of a) p k ≡ S.Counted q j → (q ≡ p) × (j ≡ k)
-  counted_low (ok x) p k q j h = (cc, cc)
+  abbrev comments_in : Step → ℕ
+  comments_in (Ok (Some (q, j))) = j
+  comments_in (Ok None) = 0
+  comments_in (Err e) = 0
+
+  counted_low : {A : Type 0} (a : Answer A) (p k q j : ℕ) → counted a p k ≡ Ok (Some (q, j)) → (q ≡ p) × (j ≡ k)
+  counted_low (ok x) p k q j h = (sym (ap rows_in h), sym (ap comments_in h))
   counted_low (refusal m c) p k q j h = let z : ◌≡◌ {A = ℕ} 0 1 = cc in let y : ⊥ = omega arith in absurd y
 
-  step_low : (κ : Kind) (p k : ℕ) (l : List ℕ) (q j : ℕ) → step_of read κ p k l ≡ S.Counted q j → (q ≤ p + 1) × (j ≤ k + 1)
+  step_low : (κ : Kind) (p k : ℕ) (l : List ℕ) (q j : ℕ) → step_of read κ p k l ≡ Ok (Some (q, j)) → (q ≤ p + 1) × (j ≤ k + 1)
   step_low closing p k l q j h = let z : ◌≡◌ {A = ℕ} 0 1 = cc in let y : ⊥ = omega arith in absurd y
   step_low comment p k l q j h = let w = counted_low (read_comment (ltb 0 p) l) p (k + 1) q j h in (omega (arith, w.0), omega (arith, w.1))
   step_low row p k l q j h = let w = counted_low (read l) (p + 1) k q j h in (omega (arith, w.0), omega (arith, w.1))
@@ -164,7 +176,7 @@ module _ (header : List ℕ) (read : List ℕ → Answer Rec) where
     abbrev whole : Block
     whole = at_most (length b) (plus 0 0 from (read_lines read 2 false (lines_of (drop from b))))
 
-    pub reading_end : length b ≤ at → B.Read p k at ≡ whole
+    pub reading_end : length b ≤ at → read_as p k at ≡ whole
     reading_end h = sym (r.same ∙ turn_end b at line p k (ltb 0 p) r.inside h)
 
     module _ {start end next : ℕ} (f : FoundAt b at start end next) where
@@ -175,13 +187,13 @@ module _ (header : List ℕ) (read : List ℕ → Answer Rec) where
       step_here s e = sym (e ∙ ap (λ (l : List ℕ). step_of read (kind_of l) p k l) (line_is f))
 
       module _ {s : Step} (e : s ≡ step_of read (kind_of line_here) p k line_here) where
-        pub reading_refused : (number column : ℕ) → s ≡ S.Refused number column → B.Refused number column line ≡ whole
-        reading_refused number column h = sym (r.same ∙ turn b at f.inside line p k (S.Refused number column) (step_here s e ∙ h))
+        pub reading_refused : (e : Refusal) → s ≡ Err e → refused_at e.reason e.column line ≡ whole
+        reading_refused x h = sym (r.same ∙ turn b at f.inside line p k (Err x) (step_here s e ∙ h))
 
-        pub reading_closing : s ≡ S.Closing → B.Read p k next ≡ whole
-        reading_closing h = ap (B.Read p k) f.after ∙ sym (r.same ∙ turn b at f.inside line p k S.Closing (step_here s e ∙ h))
+        pub reading_closing : s ≡ Ok None → read_as p k next ≡ whole
+        reading_closing h = ap (read_as p k) f.after ∙ sym (r.same ∙ turn b at f.inside line p k (Ok None) (step_here s e ∙ h))
 
-        pub reading_next : (q j : ℕ) → s ≡ S.Counted q j → Reading b from next (line + 1) q j
+        pub reading_next : (q j : ℕ) → s ≡ Ok (Some (q, j)) → Reading b from next (line + 1) q j
         reading_next q j h =
             let w = next_after f in
             let v = step_low (kind_of (line_of b at)) p k (line_of b at) q j (step_here s e ∙ h) in
@@ -194,7 +206,7 @@ module _ (header : List ℕ) (read : List ℕ → Answer Rec) where
               rows = omega (arith, c, v.0, w.0);
               comments = omega (arith, d, v.1, w.0);
               same =
-                  r.same ∙ turn b at f.inside line p k (S.Counted q j) (step_here s e ∙ h)
+                  r.same ∙ turn b at f.inside line p k (Ok (Some (q, j))) (step_here s e ∙ h)
                   ∙ ap (λ (x : ℕ). at_most (length b) (plus q j x (read_lines read (line + 1) (ltb 0 q) (lines_of (drop x b))))) (sym f.after);
             }
 
@@ -204,7 +216,7 @@ module _ (header : List ℕ) (read : List ℕ → Answer Rec) where
     header_here : (u : Bool) → t ≡ u → is_header header (line_of b 0) ≡ u
     header_here u h = sym (ap (is_header header) (line_is f)) ∙ sym e ∙ h
 
-    pub first_other : t ≡ false → B.Refused out_of_place 0 1 ≡ read_block_by header read b
+    pub first_other : t ≡ false → refused_at out_of_place 0 1 ≡ read_block_by header read b
     first_other h = sym (block_other b low f.inside (header_here false h))
 
     pub first_lines : t ≡ true → at_most (length b) (plus 0 0 next (read_lines read 2 false (lines_of (drop next b)))) ≡ read_block_by header read b

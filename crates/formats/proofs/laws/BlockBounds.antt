@@ -1,4 +1,6 @@
 -- How large the numbers answered for a block can be.
+use Rattle.std.specs.Prelude.{Ok, Err}
+use Rattle.formats.specs.Refused.{refused_at}
 use Prim.Native.Nat.{ℕ, suc, ◌+◌, ◌≤◌, ◌<◌}
 use mathlib.Core.Bool.{Bool, true, false}
 use mathlib.Core.List.{List, [], ◌∷◌}
@@ -7,13 +9,13 @@ use native.Mathlib.Omega.{arith}
 use lib.Dec.{eqb, ltb}
 use lib.ListN.{length}
 use borrow.Author.Tests.{lt-ltb, le-ltb, lt-leb, le-leb}
-use Rattle.columns.specs.Answer.{pick, Answer, ok, refusal, barred_byte, differs, wrong_length}
+use Rattle.columns.specs.Answer.{pick, Answer, ok, refusal, barred_byte, differs, wrong_length, too_short, number_of}
 use Rattle.columns.specs.Column.{Rec}
 use Rattle.columns.specs.Row.{Fits}
 use Rattle.columns.proofs.laws.Bounds.{column_of, pick_bound, barred_bound}
 use Rattle.formats.specs.Row.{RowFormat, lowest_barred_byte, write_row_from}
 use Rattle.formats.specs.Lines.{on_first, lines_of, line_end}
-use Rattle.formats.specs.Block.{BlockFormat, Kind, closing, comment, row, kind_of, is_header, trim_end, last_byte, read_comment, out_of_place, plus, on_line, with_newline, read_line, read_lines, read_headed, at_most, read_block_by, read_block}
+use Rattle.formats.specs.Block.{BlockFormat, Kind, closing, comment, row, kind_of, is_header, trim_end, last_byte, read_comment, out_of_place, not_closed, plus, on_line, with_newline, read_line, read_lines, read_headed, at_most, read_block_by, read_block}
 use Rattle.formats.proofs.laws.BlockReader.{next_range}
 use Rattle.formats.proofs.laws.Lines.{lt_or_le, line_end_to}
 use Rattle.formats.proofs.laws.Row.{row_bound}
@@ -22,8 +24,7 @@ use Rattle.formats.specs.BlockReader.{line_of, next_of}
 use Rattle.formats.specs.BlockWalk.{no_line, header_line, comment_line, nothing, known, headed, first_line, line_after, next_line}
 use Rattle.formats.specs.BlockWriting.{ended, write_header, room_from, header_call, record_call}
 use Rattle.formats.specs.declared.block_walk.BlockLine.{BlockLine}
-use Rattle.formats.specs.declared.block.Block.{Block}
-use Rattle.formats.specs.declared.block.Block.TheVariants as B
+use Rattle.formats.specs.Block.{Block}
 
 -- ---- the lines of a text: no more than its bytes
 
@@ -47,7 +48,7 @@ comment_bound : (seen : Bool) (l : List ℕ) → column_of (read_comment seen l)
 unfolding read_comment
 comment_bound seen l = elim (lt_or_le 1024 (length l)) [ inl p ↦ rw (lt-ltb 1024 (length l) p) (omega arith) | inr p ↦ rw (le-ltb 1024 (length l) p) (short p) ]
   where
-    short : length l ≤ 1024 → column_of (pick (differs (lowest_barred_byte l) 0) (refusal barred_byte (lowest_barred_byte l)) (pick (differs (last_byte (trim_end l)) 41) (refusal 15 0) (pick seen (ok l) (refusal out_of_place 0)))) ≤ 1024
+    short : length l ≤ 1024 → column_of (pick (differs (lowest_barred_byte l) 0) (refusal barred_byte (lowest_barred_byte l)) (pick (differs (last_byte (trim_end l)) 41) (refusal not_closed 0) (pick seen (ok l) (refusal out_of_place 0)))) ≤ 1024
     short p =
         pick_bound 1024 (differs (lowest_barred_byte l) 0) _ _ (omega (arith, p, barred_bound 0 0 0 l))
         (pick_bound 1024 (differs (last_byte (trim_end l)) 41) _ _ (omega arith) (pick_bound 1024 seen _ _ (omega arith) (omega arith)))
@@ -58,18 +59,18 @@ pub record SmallRead (p k u : ℕ) : Type 0 where
   pub used : u ≤ 65536
 
 abbrev pub Small : Block → Type 0
-Small (B.Read p k u) = SmallRead p k u
-Small (B.Refused number column line) = (column < 65536) × (line ≤ 65538)
+Small (Ok c) = SmallRead c.rows c.comments c.used
+Small (Err e) = (e.column < 65536) × (e.line ≤ 65538)
 
 module _ (header : List ℕ) (read : List ℕ → Answer Rec) (low : (l : List ℕ) → column_of (read l) ≤ 1024) where
   -- at most m lines counted, or a refusal of line n at most
   abbrev Within : ℕ → ℕ → Block → Type 0
-  Within n m (B.Read p k u) = p + k ≤ m
-  Within n m (B.Refused number column line) = (column ≤ 1024) × (line ≤ n)
+  Within n m (Ok c) = c.rows + c.comments ≤ m
+  Within n m (Err e) = (e.column ≤ 1024) × (e.line ≤ n)
 
   plus_within : (n m p k u : ℕ) → p + k ≤ 1 → (x : Block) → Within n m x → Within n (suc m) (plus p k u x)
-  plus_within n m p k u h (B.Read a b c) w = omega (arith, h, w)
-  plus_within n m p k u h (B.Refused number column line) w = w
+  plus_within n m p k u h (Ok c) w = omega (arith, h, w)
+  plus_within n m p k u h (Err e) w = w
 
   line_within : {A : Type 0} (n m i : ℕ) (a : Answer A) (x : Block) → i ≤ n → column_of a ≤ 1024 → Within n m x → Within n m (on_line i a x)
   line_within n m i (ok v) x j h w = w
@@ -91,12 +92,12 @@ module _ (header : List ℕ) (read : List ℕ → Answer Rec) (low : (l : List �
   -- ---- the whole block
 
   small_whole : (b : List ℕ) (m : ℕ) → length b ≤ 65536 → m < 65536 → (x : Block) → Within 65538 m x → Small (at_most (length b) x)
-  small_whole b m h k (B.Read p q u) w = record { rows = omega (arith, k, w); comments = omega (arith, k, w); used = by_size (lt_or_le (length b) u) }
+  small_whole b m h k (Ok c) w = record { rows = omega (arith, k, w); comments = omega (arith, k, w); used = by_size (lt_or_le (length b) c.used) }
     where
-      by_size : (length b < u) ⊎ (u ≤ length b) → pick (ltb (length b) u) (length b) u ≤ 65536
-      by_size (inl g) = rw (lt-ltb (length b) u g) h
-      by_size (inr g) = rw (le-ltb (length b) u g) (omega (arith, h, g))
-  small_whole b m h k (B.Refused number column line) w = (omega (arith, w.0), w.1)
+      by_size : (length b < c.used) ⊎ (c.used ≤ length b) → pick (ltb (length b) c.used) (length b) c.used ≤ 65536
+      by_size (inl g) = rw (lt-ltb (length b) c.used g) h
+      by_size (inr g) = rw (le-ltb (length b) c.used g) (omega (arith, h, g))
+  small_whole b m h k (Err e) w = (omega (arith, w.0), w.1)
 
   small_headed_lines : (b : List ℕ) → length b ≤ 65536 → (ls : List (List ℕ)) → length ls ≤ length b → Small (at_most (length b) (read_headed header read ls))
   unfolding read_headed
@@ -104,10 +105,10 @@ module _ (header : List ℕ) (read : List ℕ → Answer Rec) (low : (l : List �
   small_headed_lines b h (l ∷ ls) n = by_header (is_header header l)
     where
       headed_within : (x : Block) → Within 65538 (length ls) x → Within 65538 (length ls) (plus 0 0 (with_newline l) x)
-      headed_within (B.Read a c u) w = omega (arith, w)
-      headed_within (B.Refused number column line) w = w
+      headed_within (Ok c) w = omega (arith, w)
+      headed_within (Err e) w = w
 
-      by_header : (t : Bool) → Small (at_most (length b) (pick t (plus 0 0 (with_newline l) (read_lines read 2 false ls)) (B.Refused out_of_place 0 1)))
+      by_header : (t : Bool) → Small (at_most (length b) (pick t (plus 0 0 (with_newline l) (read_lines read 2 false ls)) (refused_at out_of_place 0 1)))
       by_header true = small_whole b (length ls) h (omega (arith, h, n)) (plus 0 0 (with_newline l) (read_lines read 2 false ls)) (headed_within (read_lines read 2 false ls) (lines_within 65538 2 false ls (omega (arith, h, n))))
       by_header false = (omega arith, omega arith)
 
@@ -148,17 +149,17 @@ module _ (b : List ℕ) (low : length b ≤ 65536) (at : ℕ) (h : at < length b
 small_headed : (header b : List ℕ) → length b ≤ 65536 → 0 < length b → SmallLine (headed header b)
 small_headed header b low h = by_header (is_header header (line_of b 0))
   where
-    by_header : (t : Bool) → SmallLine (pick t (record { kind = header_line; number = 0; end = line_end b 0; next = next_of b 0 }) (nothing out_of_place))
+    by_header : (t : Bool) → SmallLine (pick t (record { kind = header_line; number = 0; end = line_end b 0; next = next_of b 0 }) (nothing (number_of out_of_place)))
     by_header true = record { kind = omega arith; number = omega arith; end = end_low b low 0 h; next = after_low b low 0 h }
-    by_header false = small_nothing out_of_place (omega arith)
+    by_header false = small_nothing (number_of out_of_place) (omega arith)
 
 pub first_small : (header b : List ℕ) → SmallLine (first_line header b)
 unfolding first_line
 first_small header b = elim (lt_or_le 65536 (length b)) [
-  | inl p ↦ rw (lt-ltb 65536 (length b) p) (small_nothing wrong_length (omega arith))
+  | inl p ↦ rw (lt-ltb 65536 (length b) p) (small_nothing (number_of wrong_length) (omega arith))
   | inr low ↦ elim (lt_or_le 0 (length b)) [
     | inl p ↦ rw (le-ltb 65536 (length b) low, lt-leb (length b) 0 p) (small_headed header b low p)
-    | inr p ↦ rw (le-ltb 65536 (length b) low, le-leb (length b) 0 p) (small_nothing out_of_place (omega arith))
+    | inr p ↦ rw (le-ltb 65536 (length b) low, le-leb (length b) 0 p) (small_nothing (number_of out_of_place) (omega arith))
   ]
 ]
 
@@ -178,7 +179,7 @@ small_pick false x y p q = q
 pub next_small : (b : List ℕ) (x : BlockLine) → SmallLine (next_line b x)
 unfolding next_line
 next_small b x = elim (lt_or_le 65536 (length b)) [
-  | inl p ↦ rw (lt-ltb 65536 (length b) p) (small_nothing wrong_length (omega arith))
+  | inl p ↦ rw (lt-ltb 65536 (length b) p) (small_nothing (number_of wrong_length) (omega arith))
   | inr low ↦
       rw (le-ltb 65536 (length b) low)
       (small_pick (ltb x.kind header_line) _ _ (small_nothing no_line (omega arith)) (small_pick (ltb comment_line x.kind) _ _ (small_nothing no_line (omega arith)) (small_after b low x.next x.number)))
@@ -193,7 +194,7 @@ ended_column (refusal n k) = omega arith
 pub header_column : (header : List ℕ) (at size : ℕ) → column_of (header_call header at size) ≤ 0
 unfolding header_call
 header_column header at size =
-    omega (arith, ended_column (write_header header (room_from at size)), pick_bound 0 (ltb (room_from at size) (length header)) (refusal 11 0) (ok header) (omega arith) (omega arith))
+    omega (arith, ended_column (write_header header (room_from at size)), pick_bound 0 (ltb (room_from at size) (length header)) (refusal too_short 0) (ok header) (omega arith) (omega arith))
 
 pub record_column : (F : RowFormat) → Fits F.columns → (from : List ℕ) (at size : ℕ) → column_of (record_call F from at size) ≤ 256
 unfolding record_call

@@ -1,17 +1,11 @@
--- Laws of a block's line by itself: its trailing blanks, its last byte, and its kind.
+-- Laws of a block's line by itself: its trailing blanks and its last byte.
 use Prim.Native.Nat.{ℕ, zero, suc, ◌+◌, ◌-◌, ◌≤◌, ◌<◌}
 use mathlib.Core.Path.{◌≡◌, refl, sym, ap, ◌∙◌}
-use mathlib.Core.Bool.{Bool, true, false}
 use mathlib.Core.List.{List, [], ◌∷◌, ◌++◌}
 use native.Mathlib.Omega.{arith}
-use lib.Dec.{eqb}
-use lib.ListN.{length, take, drop, get_or}
+use lib.ListN.{length, take, get_or}
 use borrow.Author.Tests.{eq-eqb, ne_eqb}
-use Rattle.columns.specs.Answer.{pick}
-use Rattle.columns.specs.Bytes.{is_none, same_bytes}
-use Rattle.formats.specs.Block.{is_header, kind_of, closing, comment, row, before_trimmed, trim_end, last_byte, begins_comment}
-use Rattle.columns.specs.Table.{over}
-use Rattle.formats.proofs.laws.RowRecord.{over_part}
+use Rattle.formats.specs.Block.{before_trimmed, trim_end, last_byte}
 
 -- ---- trailing blanks, one byte at the end at a time
 
@@ -59,42 +53,3 @@ last_after (b ∷ a ∷ s) x = last_after (a ∷ s) x
 
 pub last_of : (l : List ℕ) (i : ℕ) → 0 < i → i ≤ length l → last_byte (take i l) ≡ get_or l (i - 1) 0
 last_of l i p h = ap last_byte (before l i p h) ∙ last_after (take (i - 1) l) (get_or l (i - 1) 0)
-
--- ---- whether a line begins a comment, as the code comes to it
-
-pick_false : (t : Bool) → pick t false false ≡ false
-pick_false true = refl
-pick_false false = refl
-
-pub begins_short : (l : List ℕ) → length l < 2 → begins_comment l ≡ false
-begins_short [] h = refl
-begins_short (b ∷ []) h = pick_false (eqb b 32)
-begins_short (b ∷ x ∷ l) h = absurd (omega arith)
-
--- ---- a line's kind, as the code comes to it
-
-some_taken : (l : List ℕ) (n : ℕ) → n ≤ length l → (n ≡ 0 → ⊥) → is_none (take n l) ≡ false
-some_taken l zero h z = absurd (z refl)
-some_taken [] (suc n) h z = absurd (omega (arith, h))
-some_taken (b ∷ l) (suc n) h z = refl
-
-trimmed_some : (l : List ℕ) (n : ℕ) → trim_end l ≡ take n l → n ≤ length l → (n ≡ 0 → ⊥) → is_none (trim_end l) ≡ false
-trimmed_some l n e h z = ap is_none e ∙ some_taken l n h z
-
-module _ (l : List ℕ) (n : ℕ) (e : trim_end l ≡ take n l) where
-  pub kind_closing : n ≡ 0 → kind_of l ≡ closing
-  kind_closing z = let t : is_none (trim_end l) ≡ true = ap is_none (e ∙ ap (λ (m : ℕ). take m l) z) in rw t
-
-  module _ (h : n ≤ length l) (z : n ≡ 0 → ⊥) where
-    pub kind_comment : begins_comment l ≡ true → kind_of l ≡ comment
-    kind_comment c = let t : is_none (trim_end l) ≡ false = trimmed_some l n e h z in rw (t, c)
-
-    pub kind_row : begins_comment l ≡ false → kind_of l ≡ row
-    kind_row c = let t : is_none (trim_end l) ≡ false = trimmed_some l n e h z in rw (t, c)
-
--- ---- the header, as the code looks at it
-
-pub header_same : (l header : List ℕ) (n m : ℕ) (zeros w : List ℕ) → trim_end l ≡ take n l → m ≡ length header → w ≡ over header zeros → same_bytes (take (n - 0) (drop 0 l)) (take (m - 0) (drop 0 w)) ≡ is_header header l
-header_same l header n m zeros w e k f =
-    let z : n - 0 ≡ n = omega arith in
-    rw (z, f, over_part header zeros m (sym k), e)

@@ -13,7 +13,8 @@ use Rattle.formats.specs.Lines.{lines_of, line_end}
 use Rattle.formats.specs.Block.{with_newline}
 use Rattle.formats.specs.BlockReader.{line_of, next_of, past_newline, line_at}
 use Rattle.formats.proofs.laws.Lines.{lt_or_le, lines_next, lines_none, line_end_from, line_end_to}
-use Rattle.formats.specs.declared.block_reader.Line.TheVariants as L
+use Rattle.formats.specs.declared.block_reader.Line.{Line}
+use Rattle.std.specs.Prelude.{Option, None, Some}
 
 -- ---- the place after a line
 
@@ -58,35 +59,32 @@ pub record FoundAt (b : List ℕ) (at start end next : ℕ) : Type 0 where
   pub ends : end ≡ line_end b at
   pub after : next ≡ next_of b at
 
-found_by : (b : List ℕ) (at start end next : ℕ) → (at < length b) ⊎ (length b ≤ at) → L.Found start end next ≡ line_at b at → FoundAt b at start end next
-found_by b at start end next (inl p) e =
-    let f : L.Found start end next ≡ L.Found at (line_end b at) (next_of b at) = e ∙ rw (lt-leb (length b) at p) in
-    record { inside = p; starts = cc; ends = cc; after = cc }
-found_by b at start end next (inr p) e =
-    let f : L.Found start end next ≡ L.End = e ∙ rw (le-leb (length b) at p) in
+found_by : (b : List ℕ) (at : ℕ) (f : Line) → (at < length b) ⊎ (length b ≤ at) → Some f ≡ line_at b at → FoundAt b at f.start f.end f.next
+found_by b at f (inl p) e =
+    let s : Some f ≡ Some (record { start = at; end = line_end b at; next = next_of b at }) = e ∙ rw (lt-leb (length b) at p) in
+    let q : f ≡ record { start = at; end = line_end b at; next = next_of b at } = cc in
+    record { inside = p; starts = rw q; ends = rw q; after = rw q }
+found_by b at f (inr p) e =
+    let n : Some f ≡ None = e ∙ rw (le-leb (length b) at p) in
     let z : ◌≡◌ {A = ℕ} 0 1 = cc in let y : ⊥ = omega arith in absurd y
 
-pub found_at : (b : List ℕ) (at : ℕ) {start end next : ℕ} → L.Found start end next ≡ line_at b at → FoundAt b at start end next
-found_at b at {start} {end} {next} = found_by b at start end next (lt_or_le at (length b))
+-- a line is found within the block
+pub found_at : (b : List ℕ) (at : ℕ) {f : Line} → Some f ≡ line_at b at → FoundAt b at f.start f.end f.next
+found_at b at {f} = found_by b at f (lt_or_le at (length b))
 
-end_by : (b : List ℕ) (at : ℕ) → (at < length b) ⊎ (length b ≤ at) → L.End ≡ line_at b at → length b ≤ at
+end_by : (b : List ℕ) (at : ℕ) → (at < length b) ⊎ (length b ≤ at) → None ≡ line_at b at → length b ≤ at
 end_by b at (inl p) e =
-    let f : L.End ≡ L.Found at (line_end b at) (next_of b at) = e ∙ rw (lt-leb (length b) at p) in
+    let n : ◌≡◌ {A = Option Line} None (Some (record { start = at; end = line_end b at; next = next_of b at })) = e ∙ rw (lt-leb (length b) at p) in
     let z : ◌≡◌ {A = ℕ} 0 1 = cc in let y : ⊥ = omega arith in absurd y
 end_by b at (inr p) e = p
 
-pub end_at : (b : List ℕ) (at : ℕ) → L.End ≡ line_at b at → length b ≤ at
+-- none is found at its end
+pub end_at : (b : List ℕ) (at : ℕ) → None ≡ line_at b at → length b ≤ at
 end_at b at = end_by b at (lt_or_le at (length b))
 
 module _ {b : List ℕ} {at start end next : ℕ} (f : FoundAt b at start end next) where
   pub line_is : take (end - start) (drop start b) ≡ line_of b at
   line_is = rw (f.starts, f.ends)
-
-  pub starts_in : start ≤ end
-  starts_in = omega (arith, f.starts, f.ends, line_end_from b at)
-
-  pub ends_in : end ≤ length b
-  ends_in = let i = f.inside in omega (arith, f.ends, line_end_to b at (omega (arith, i)))
 
   pub next_after : (at < next) × (next ≤ length b)
   next_after = let r = next_range b at f.inside in (omega (arith, f.after, r.0), omega (arith, f.after, r.1))

@@ -1,4 +1,6 @@
 -- Laws of the block's writer: each answer as the code comes to it, and a line written through a part of the output.
+use Rattle.std.specs.Prelude.{Ok, Err}
+use Rattle.columns.specs.Answer.{refusal_at}
 use mathlib.Core.Path.{◌≡◌, refl, sym, ap, ◌∙◌}
 use mathlib.Core.List.{List, [], ◌∷◌, ◌++◌, append_assoc}
 use Prim.Native.Nat.{ℕ, ◌+◌, ◌-◌, ◌≤◌, ◌<◌}
@@ -11,16 +13,16 @@ use Rattle.columns.specs.Answer.{Answer, ok, refusal, too_short}
 use Rattle.columns.specs.Row.{Fits}
 use Rattle.columns.proofs.laws.Row.{row_wide}
 use Rattle.columns.specs.Table.{over, placed, laid}
-use Rattle.formats.specs.declared.Reply.{Reply}
+use Rattle.formats.specs.Record.{Reply}
 use Rattle.formats.specs.Record.{reply_of, Replied}
 use Rattle.formats.specs.Row.{RowFormat, write_row_from}
 use Rattle.formats.specs.BlockWriting.{ended, write_header, header_call, record_call, room_from, from_place, laid_from, RepliedFrom}
+use Rattle.columns.specs.declared.Refusal.{Refusal}
 use Rattle.formats.specs.Numbers.{reply_length}
 use Rattle.columns.proofs.laws.Places.{set_over}
 use Rattle.formats.proofs.laws.RowRecord.{over_part}
 use Rattle.formats.proofs.laws.RowRecordBack.{row_written}
 use Rattle.formats.proofs.laws.CubeRecord.{replied_done, replied_refused, replied_as}
-use Rattle.formats.specs.declared.Reply.TheVariants as R
 
 -- ---- what a reply says of the answer
 
@@ -29,13 +31,13 @@ record Written (a : Answer (List ℕ)) (n : ℕ) : Type 0 where
   is : a ≡ ok line
   size : length line ≡ n
 
-done_reply : (a : Answer (List ℕ)) (n : ℕ) → R.Done n ≡ reply_of a → Written a n
+done_reply : (a : Answer (List ℕ)) (n : ℕ) → Ok n ≡ reply_of a → Written a n
 done_reply (ok ys) n e = record { line = ys; is = refl; size = cc }
 done_reply (refusal m k) n e = let z : ◌≡◌ {A = ℕ} 0 1 = cc in let y : ⊥ = omega arith in absurd y
 
-refused_reply : (a : Answer (List ℕ)) (n k : ℕ) → R.Refused n k ≡ reply_of a → a ≡ refusal n k
-refused_reply (ok ys) n k e = let z : ◌≡◌ {A = ℕ} 0 1 = cc in let y : ⊥ = omega arith in absurd y
-refused_reply (refusal m j) n k e = cc
+refused_reply : (a : Answer (List ℕ)) (x : Refusal) → Err x ≡ reply_of a → a ≡ refusal x.reason x.column
+refused_reply (ok ys) x e = let z : ◌≡◌ {A = ℕ} 0 1 = cc in let y : ⊥ = omega arith in absurd y
+refused_reply (refusal m j) x e = let z : refusal_at m j ≡ x = cc in rw (← z)
 
 -- ---- a part that was lent and comes back
 
@@ -64,7 +66,7 @@ module _ (at k : ℕ) (a : Answer (List ℕ)) (r : Reply) (out to : List ℕ) (w
 
 -- ---- a line, and its newline after it
 
-ended_line : (a : Answer (List ℕ)) (ys part to : List ℕ) (n : ℕ) → a ≡ ok ys → length ys ≡ n → n < length part → to ≡ over ys part → Replied (ended a) (R.Done (n + 1)) part (set to n 10)
+ended_line : (a : Answer (List ℕ)) (ys part to : List ℕ) (n : ℕ) → a ≡ ok ys → length ys ≡ n → n < length part → to ≡ over ys part → Replied (ended a) (Ok (n + 1)) part (set to n 10)
 ended_line a ys part to n e m h f =
     replied_done (ended a) part (ys ++ 10 ∷ []) (set to n 10) (n + 1) (ap ended e) (length-append ys (10 ∷ []) ∙ omega arith) (set_over ys part to 10 n m h f)
 
@@ -85,19 +87,19 @@ module _ (write : ℕ → Answer (List ℕ)) (part : List ℕ) (h : 0 < length p
   after_is : (a : Answer (List ℕ)) → answer ≡ a → after ≡ laid_from 0 a part
   after_is a e = part_laid 0 (length part - 1 - 0) answer part to w.bytes s ∙ ap (λ (x : Answer (List ℕ)). laid_from 0 x part) e
 
-  pub line_refused : (n k : ℕ) → r ≡ R.Refused n k → Replied (ended (write (length part - 1))) (R.Refused n k) part after
-  line_refused n k e =
-      let d : answer ≡ refusal n k = refused_reply answer n k (sym e ∙ w.answer) in
-      replied_as _ _ _ part after ended_is (rw (after_is (refusal n k) d) (replied_refused (ended answer) part n k (ap ended d)))
+  pub line_refused : (x : Refusal) → r ≡ Err x → Replied (ended (write (length part - 1))) (Err x) part after
+  line_refused x e =
+      let d : answer ≡ refusal x.reason x.column = refused_reply answer x (sym e ∙ w.answer) in
+      replied_as _ _ _ part after ended_is (rw (after_is (refusal x.reason x.column) d) (replied_refused (ended answer) part x.reason x.column (ap ended d)))
 
-  module _ (n : ℕ) (e : r ≡ R.Done n) where
+  module _ (n : ℕ) (e : r ≡ Ok n) where
     pub line_in_lem : n < length part
     line_in_lem = let i : n ≤ length (mid_of 0 (length part - 1 - 0) part) = rw e at (reply_in 0 (length part - 1 - 0) answer r part to w s) in omega (arith, room_is)
 
     pub newline_in : n < length after
     newline_in = omega (arith, line_in_lem, same_len_mid 0 (length part - 1 - 0) part to s)
 
-    pub line_done : Replied (ended (write (length part - 1))) (R.Done (n + 1)) part (set after n 10)
+    pub line_done : Replied (ended (write (length part - 1))) (Ok (n + 1)) part (set after n 10)
     line_done =
         let d = done_reply answer n (sym e ∙ w.answer) in
         replied_as _ _ _ part (set after n 10) ended_is (ended_line answer d.line part after n d.is d.size line_in_lem (after_is (ok d.line) d.is))
@@ -109,10 +111,10 @@ module _ (header : List ℕ) (some : 1 ≤ length header) where
   header_short room h = rw (lt-ltb room (length header) h)
 
   module _ (part : List ℕ) (n : ℕ) (e : n ≡ length header) where
-    pub header_refused : length part ≤ n → Replied (ended (write_header header (length part - 1))) (R.Refused too_short 0) part part
+    pub header_refused : length part ≤ n → Replied (ended (write_header header (length part - 1))) (Err (refusal_at too_short 0)) part part
     header_refused h = replied_refused _ part too_short 0 (ap ended (header_short (length part - 1) (omega arith)))
 
-    pub header_done : n < length part → (zeros words to : List ℕ) → words ≡ over header zeros → to ≡ over (take (n - 0) (drop 0 words)) part → Replied (ended (write_header header (length part - 1))) (R.Done (n + 1)) part (set to n 10)
+    pub header_done : n < length part → (zeros words to : List ℕ) → words ≡ over header zeros → to ≡ over (take (n - 0) (drop 0 words)) part → Replied (ended (write_header header (length part - 1))) (Ok (n + 1)) part (set to n 10)
     header_done h zeros words to w f =
         let g : length header ≤ length part - 1 = omega arith in
         let l : take (n - 0) (drop 0 words) ≡ header = ap (λ (x : List ℕ). take (n - 0) (drop 0 x)) w ∙ over_part header zeros n (sym e) in
@@ -120,7 +122,7 @@ module _ (header : List ℕ) (some : 1 ≤ length header) where
 
   -- ---- a call from a place that is past the last byte
 
-  pub header_past : (at : ℕ) (out : List ℕ) → length out ≤ at → RepliedFrom at (header_call header at (length out)) (R.Refused too_short 0) out out
+  pub header_past : (at : ℕ) (out : List ℕ) → length out ≤ at → RepliedFrom at (header_call header at (length out)) (Err (refusal_at too_short 0)) out out
   unfolding header_call
   header_past at out h = rw (header_short (length out - at - 1) (omega arith)) (record { answer = refl; bytes = refl })
 
@@ -143,9 +145,6 @@ module _ (F : RowFormat) (f : Fits F.columns) where
 module _ (write : ℕ → Answer (List ℕ)) (at : ℕ) (out : List ℕ) (h : at < length out) (reply : Reply) (to : List ℕ) (w : Replied (ended (write (length (mid_of at (length out - at) out) - 1))) reply (mid_of at (length out - at) out) to) (s : length to ≡ length (mid_of at (length out - at) out)) where
   part_size : length (mid_of at (length out - at) out) ≡ length out - at
   part_size = mid_len at (length out) out (omega arith)
-
-  pub call_fits : at + reply_length reply ≤ length out
-  call_fits = omega (arith, reply_in at (length out - at) _ reply out to w s, part_size)
 
   pub call_replied : (r : Reply) → r ≡ from_place at reply → RepliedFrom at (ended (write (room_from at (length out)))) r out (put_mid at (length out - at) out to)
   call_replied r e = replied_from at (length out - at) _ reply out to w s _ r (ap (λ (n : ℕ). ended (write (n - 1))) (sym part_size)) e

@@ -1,5 +1,7 @@
 -- What a header call and then record calls wrote reads back as a block with those records in that order, for any row format
 -- (document 01, "The block").
+use Rattle.std.specs.Prelude.{Ok}
+use Rattle.formats.specs.Block.{read_as}
 use mathlib.Core.Path.{◌≡◌, refl, ap, subst, ◌∙◌}
 use mathlib.Core.Bool.{Bool, true, false}
 use mathlib.Core.List.{List, [], ◌∷◌, ◌++◌, append_assoc}
@@ -26,8 +28,6 @@ use Rattle.formats.specs.BlockWriting.{ended, write_header, room_from, header_ca
 use Rattle.formats.proofs.laws.Format.{HeaderFine}
 use Rattle.formats.proofs.laws.Row.{row_text, row_opened, row_some}
 use Rattle.formats.proofs.laws.RowRecordBack.{row_written}
-use Rattle.formats.specs.declared.Reply.TheVariants as R
-use Rattle.formats.specs.declared.block.Block.TheVariants as B
 
 -- ---- lines one after the other, each with its newline
 
@@ -88,7 +88,7 @@ module _ (header : List ℕ) (fine : HeaderFine header) (read : List ℕ → Ans
   rows_lines no_line_read = refl
   rows_lines (line_read {l = l} {ls = ls} {m = m} e p) = line_ended (text_of ls) (text l m e) ∙ ap (λ (x : List (List ℕ)). l ∷ x) (rows_lines p)
 
-  rows_read : {ls : List (List ℕ)} (n : ℕ) (seen : Bool) → AllRead read ls → read_lines read n seen ls ≡ B.Read (length ls) 0 (length (text_of ls))
+  rows_read : {ls : List (List ℕ)} (n : ℕ) (seen : Bool) → AllRead read ls → read_lines read n seen ls ≡ read_as (length ls) 0 (length (text_of ls))
   unfolding read_lines text_of
   rows_read n seen no_line_read = refl
   rows_read n seen (line_read {l = l} {ls = ls} {m = m} e p) =
@@ -101,14 +101,14 @@ module _ (header : List ℕ) (fine : HeaderFine header) (read : List ℕ → Ans
     unfolding text_of
     headed_lines = line_ended (text_of ls) fine.text ∙ ap (λ (x : List (List ℕ)). header ∷ x) (rows_lines p)
 
-    headed_read : read_headed header read (header ∷ ls) ≡ B.Read (length ls) 0 (length (text_of (header ∷ ls)))
+    headed_read : read_headed header read (header ∷ ls) ≡ read_as (length ls) 0 (length (text_of (header ∷ ls)))
     unfolding read_headed text_of
     headed_read =
         let x : 0 + length ls ≡ length ls = omega arith in
         let y : length header + 1 + length (text_of ls) ≡ length (header ++ 10 ∷ text_of ls) = omega (arith, length-append header (10 ∷ text_of ls)) in
         rw (fine.own, rows_read 2 false p, x, y)
 
-    text_read : length (text_of (header ∷ ls)) ≤ 65536 → read_block_by header read (text_of (header ∷ ls)) ≡ B.Read (length ls) 0 (length (text_of (header ∷ ls)))
+    text_read : length (text_of (header ∷ ls)) ≤ 65536 → read_block_by header read (text_of (header ∷ ls)) ≡ read_as (length ls) 0 (length (text_of (header ∷ ls)))
     unfolding read_block_by
     text_read k =
         let n = length (text_of (header ∷ ls)) in
@@ -137,7 +137,7 @@ record Called (a : Answer (List ℕ)) (at next : ℕ) (out to : List ℕ) : Type
   place : next ≡ at + length (line ++ 10 ∷ [])
   bytes : to ≡ placed at (line ++ 10 ∷ []) out
 
-called : (a : Answer (List ℕ)) (at next : ℕ) (out to : List ℕ) → RepliedFrom at (ended a) (R.Done next) out to → Called a at next out to
+called : (a : Answer (List ℕ)) (at next : ℕ) (out to : List ℕ) → RepliedFrom at (ended a) (Ok next) out to → Called a at next out to
 called (ok l) at next out to w = let e = w.answer in record { line = l; is = refl; place = cc; bytes = w.bytes }
 called (refusal n k) at next out to w = let e = w.answer in let z : ◌≡◌ {A = ℕ} 0 1 = cc in let y : ⊥ = omega arith in absurd y
 

@@ -1,4 +1,4 @@
--- The cards' tables in the code are their kinds; what holds of every kind of card, computed here.
+-- What holds of every kind of card, computed here.
 use mathlib.Core.Path.{◌≡◌, refl}
 use mathlib.Core.List.{List, [], ◌∷◌}
 use Prim.Native.Nat.{ℕ, ◌+◌, ◌*◌, ◌≤◌, ◌<◌}
@@ -11,7 +11,9 @@ use Rattle.columns.specs.Column.{Rec}
 use Rattle.columns.specs.Row.{row_size}
 use Rattle.columns.specs.Table.{sizes_of}
 use Rattle.formats.specs.Row.{read_row, write_row, row_bytes}
-use Rattle.formats.specs.Lettered.{LineKind, at_start, kinds_of, format_for, named, leading, read_lettered_into, numbered, kind_in, record_format, write_lettered, kinds_at}
+use Rattle.formats.specs.declared.lettered.LineKind.{LineKind}
+use Rattle.formats.specs.declared.cards.TheConstants.{ALL}
+use Rattle.formats.specs.Lettered.{at_start, kinds_of, format_for, named, leading, read_lettered_into, numbered, kind_in, record_format, write_lettered}
 use Rattle.formats.specs.Format.{format_of}
 use Rattle.formats.specs.BlockWriting.{RecordCalls}
 use Rattle.formats.specs.RunWriting.{is_in_order, WrittenRun}
@@ -24,17 +26,8 @@ use Rattle.formats.proofs.laws.RunBounds.{SmallRun, run_small, first_small, next
 use Rattle.formats.proofs.laws.Format.{format_fits}
 use Rattle.formats.proofs.laws.RunWriting.{OwnLetter, All, all_numbered, lettered_back, lettered_there, run_written}
 
-abbrev pub card_letters : List ℕ
-card_letters = 73 ∷ 76 ∷ 69 ∷ 77 ∷ 80 ∷ 65 ∷ 82 ∷ []
-
-abbrev pub card_ranks : List ℕ
-card_ranks = 0 ∷ 0 ∷ 0 ∷ 0 ∷ 0 ∷ 0 ∷ 0 ∷ []
-
-abbrev pub card_afters : List ℕ
-card_afters = 9 ∷ 0 ∷ 0 ∷ 0 ∷ 0 ∷ 0 ∷ 0 ∷ []
-
-pub cards_are : kinds_at card_letters card_ranks card_afters 6 ≡ kinds_of cards
-unfolding kinds_at
+-- the code's cards are those of the definition
+pub cards_are : ALL ≡ kinds_of cards
 cards_are = refl
 
 -- each card is named by its letter, and its columns begin with it

@@ -7,7 +7,7 @@ use Prim.Native.Nat.{ℕ, zero, suc, ◌+◌, ◌*◌, ◌/◌, ◌%◌, ◌^◌
 use native.Mathlib.Nat.{mod-eq_of_lt, eq-zero-or-pos, pow-suc, add_assoc, add-mul, mul_assoc, mul_comm, add-mul-div_right, add-mul-mod_self_right}
 use native.Mathlib.Numerals.{add-one}
 use native.Mathlib.Omega.{arith}
-use lib.Bits.{bit_xor, xor_step, xor_self, xor_lt, block_half, block_odd}
+use lib.Bits.{bit_xor, xor_step, xor_self, block_half, block_odd}
 use lib.ListN.{length, drop, get_or, drop_of_length-le}
 use lib.Seq.{drop-cons}
 use Rattle.formats.specs.Check.{check_sum, rotated}
@@ -78,9 +78,6 @@ ones_odd v e =
     let h : (v + 1) / 2 ≡ v / 2 + 1 = omega arith in
     let o : (v + 1) % 2 ≡ 0 = omega arith in
     xor_step v (v + 1) ∙ rw (h, o, e)
-
-pub ones_below : (v : ℕ) → v < 262143 → ones v < 262144
-ones_below v h = xor_lt 18 v (v + 1) (omega arith) (omega arith)
 
 even_odd : (v : ℕ) → (v % 2 ≡ 0) ⊎ (v % 2 ≡ 1)
 even_odd v = ⊎_elim inl (λ p. inr (omega arith)) (eq-zero-or-pos (v % 2))

@@ -1,4 +1,7 @@
 -- What a CUBE line that is read says, by its type.
+use Rattle.std.specs.Prelude.{Ok, Err}
+use Rattle.std.specs.Prelude.{Result}
+use Rattle.columns.specs.declared.Refusal.{Refusal}
 use mathlib.Core.Path.{◌≡◌, refl, ap, ◌∙◌}
 use mathlib.Core.Bool.{Bool, true, false}
 use mathlib.Core.List.{List, []}
@@ -8,18 +11,17 @@ use lib.ListN.{length, take, drop, get_or}
 use lib.Dec.{ltb}
 use lib.IntN.{ℤ}
 use borrow.Author.Tests.{le-ltb, ltb-false}
-use Rattle.columns.specs.Answer.{pick, Answer, ok, refusal, unless, differs, barred_byte, wrong_length}
+use Rattle.columns.specs.Answer.{refusal_at, pick, Answer, ok, refusal, unless, differs, barred_byte, wrong_length}
 use Rattle.columns.specs.Column.{Rec}
 use Rattle.columns.specs.Reading.{read_columns, nothing}
 use Rattle.columns.specs.Table.{outcome_of, ReadPart}
 use Rattle.formats.specs.Check.{check_character}
-use Rattle.formats.specs.Cube.{event_columns, event, delete, event_kind, as_event, barred_to, clear_to, lowest_barred, read_text, delete_parts, is_type, event_row, event_part, line_part, line_read, LineRead, read_event, read_delete, read_link, read_line, wrong_type, wrong_check, Message}
+use Rattle.formats.specs.Cube.{event_columns, event, delete, as_event, barred_to, clear_to, lowest_barred, read_text, delete_parts, is_type, event_row, event_part, line_part, line_read, LineRead, read_event, read_delete, read_link, read_line, wrong_type, wrong_check, Message}
 use Rattle.columns.proofs.laws.Answers.{passed, done_of, differs_not, differs_same, differs_is}
 use Rattle.columns.proofs.laws.Reader.{part_read, none_read}
-use Rattle.columns.specs.declared.Outcome.{Outcome}
-use Rattle.formats.specs.declared.cube.Read.{Read}
-use Rattle.columns.specs.declared.Outcome.TheVariants as O
-use Rattle.formats.specs.declared.cube.Read.TheVariants as R
+use Rattle.columns.specs.Table.{Outcome}
+use Rattle.formats.specs.declared.cube.Parts.{Parts}
+use Rattle.formats.specs.declared.cube.Parts.TheVariants as P
 
 -- ---- a DE or an LI line
 
@@ -47,18 +49,18 @@ module _ {A : Type 0} (low high last : ℕ) (parts : List ℕ → Answer A) (l :
 
 -- by how it begins
 module _ {A : Type 0} (low high last : ℕ) (parts : List ℕ → Answer A) (l : List ℕ) where
-  pub text_begun : O.Done ≡ outcome_of (read_text low high last ok l) → (low ≤ length l) × ((length l ≤ high) × (read_text low high last parts l ≡ parts l))
+  pub text_begun : (Ok tt) ≡ outcome_of (read_text low high last ok l) → (low ≤ length l) × ((length l ≤ high) × (read_text low high last parts l ≡ parts l))
   text_begun e =
       let r = text_read low high last ok l _ (done_of (read_text low high last ok l) e).is in
       (r.long, (r.short, text_clear low high last parts l r.long r.short r.clear))
 
-  pub text_refused : (n k : ℕ) → O.Refused n k ≡ outcome_of (read_text low high last ok l) → read_text low high last parts l ≡ refusal n k
-  text_refused n k = by_tests (ltb (length l) low) (ltb high (length l)) (differs (barred_to last l) 0)
+  pub text_refused : (r : Refusal) → Err r ≡ outcome_of (read_text low high last ok l) → read_text low high last parts l ≡ refusal r.reason r.column
+  text_refused r = by_tests (ltb (length l) low) (ltb high (length l)) (differs (barred_to last l) 0)
     where
-      by_tests : (s t u : Bool) → O.Refused n k ≡ outcome_of (unless s wrong_length 0 (unless t wrong_length 0 (unless u barred_byte (barred_to last l) (ok l)))) → unless s wrong_length 0 (unless t wrong_length 0 (unless u barred_byte (barred_to last l) (parts l))) ≡ refusal n k
-      by_tests true t u e = cc
-      by_tests false true u e = cc
-      by_tests false false true e = cc
+      by_tests : (s t u : Bool) → Err r ≡ outcome_of (unless s wrong_length 0 (unless t wrong_length 0 (unless u barred_byte (barred_to last l) (ok l)))) → unless s wrong_length 0 (unless t wrong_length 0 (unless u barred_byte (barred_to last l) (parts l))) ≡ refusal r.reason r.column
+      by_tests true t u e = let z : refusal_at wrong_length 0 ≡ r = cc in rw (← z)
+      by_tests false true u e = let z : refusal_at wrong_length 0 ≡ r = cc in rw (← z)
+      by_tests false false true e = let z : refusal_at barred_byte (barred_to last l) ≡ r = cc in rw (← z)
       by_tests false false false e = let z : ◌≡◌ {A = ℕ} 0 1 = cc in let y : ⊥ = omega arith in absurd y
 
 module _ (l : List ℕ) where
@@ -147,13 +149,13 @@ came l m = by_tests (ltb (length l) 2) (is_type 69 32 l) (is_type 68 69 l) (is_t
 
 -- ---- what the code stores
 
-pub untouched : (a : Answer Message) (r : Read) → r ≡ line_read a → (f : List ℕ) (v : List ℤ) (t : List ℕ) → LineRead a nothing r f f v v t t
-untouched a r e f v t = let w = none_read 0 0 f v t in record { answer = e; flags = w.flags; values = w.values; chars = w.chars }
+pub untouched : (a : Answer Message) (r : Result Parts Refusal) → r ≡ line_read a → (f : List ℕ) (v : List ℤ) (t : List ℕ) → LineRead a nothing r f f v v t t
+untouched a r e f v t = let w = none_read wrong_length 0 f v t in record { answer = e; flags = w.flags; values = w.values; chars = w.chars }
 
 -- the answer for an event, by that of its columns
-abbrev event_read : Outcome → Read
-event_read O.Done = R.There event_kind 0 0 0
-event_read (O.Refused n k) = R.Refused n k
+abbrev event_read : Outcome → Result Parts Refusal
+event_read (Ok u) = Ok P.Event
+event_read (Err e) = Err e
 
 event_answer : (a : Answer Rec) → event_read (outcome_of a) ≡ line_read (as_event a)
 event_answer (ok r) = refl

@@ -1,4 +1,8 @@
 -- Laws of CUBE records as bytes: each answer as the code comes to it, and the round trips.
+use Rattle.std.specs.Prelude.{Ok, Err}
+use Rattle.std.specs.Prelude.{Result}
+use Rattle.columns.specs.declared.Reason.{Reason}
+use Rattle.columns.specs.declared.Refusal.{Refusal}
 use mathlib.Core.Path.{◌≡◌, refl, sym, ap, ◌∙◌, subst}
 use mathlib.Core.Bool.{Bool, true, false}
 use mathlib.Core.List.{List, [], ◌∷◌, ◌++◌, append_assoc}
@@ -8,18 +12,18 @@ use lib.ListN.{length, take, drop, get_or, set, replicate, length-append, length
 use lib.Seq.{slice, take_all, take-add, take-take, drop-drop, length-take-le}
 use lib.IntN.{ℤ, pos}
 use borrow.Author.Tests.{lt-ltb, le-ltb, ne_eqb}
-use Rattle.columns.specs.declared.Outcome.{Outcome}
-use Rattle.columns.specs.Answer.{pick, Answer, ok, refusal, bad_form, too_short}
+use Rattle.columns.specs.Table.{Outcome}
+use Rattle.columns.specs.Answer.{refusal_at, pick, Answer, ok, refusal, bad_form, too_short}
 use Rattle.columns.specs.Column.{Slot, Rec}
 use Rattle.columns.specs.Table.{flags_of, values_of, slots_of, over, placed, Wrote, laid}
 use Rattle.columns.proofs.laws.Answers.{over_whole, done_of, refused_of}
 use Rattle.columns.proofs.laws.Table.{flags_length, values_length, slots_back}
-use Rattle.formats.specs.declared.Reply.{Reply}
-use Rattle.formats.specs.declared.cube.Read.{Read}
+use Rattle.formats.specs.Record.{Reply}
+use Rattle.formats.specs.declared.cube.Parts.{Parts}
 use Rattle.formats.specs.Link.{type_of, address_of}
 use Rattle.formats.specs.Cube.{Message, event, delete, link, event_kind, delete_kind, link_kind, delete_of, link_of, read_line, line_read, line_part, LineRead, write_message}
 use Rattle.columns.specs.Bytes.{same_bytes}
-use Rattle.formats.specs.Record.{value_bytes, packed, slots_in, replied, Replied}
+use Rattle.formats.specs.Record.{value_bytes, packed, slots_in, Replied}
 use Rattle.formats.specs.CubeRecord.{filled, record_of, event_in, delete_in, link_in, message_in, read_record, record_answer, read_into, write_from}
 use Rattle.columns.proofs.laws.Bytes.{slice_is}
 use Rattle.columns.proofs.laws.Places.{part_over}
@@ -31,38 +35,40 @@ use Rattle.formats.proofs.laws.CubeThere.{was_there, was_refused, event_there, d
 use Rattle.formats.proofs.laws.CubeWriting.{two_placed}
 use Rattle.formats.proofs.laws.Record.{numbers_length, packed_length}
 use Rattle.formats.proofs.laws.CubeBack.{Sized, line_accepted, event_size, delete_size}
-use Rattle.columns.specs.declared.Outcome.TheVariants as O
-use Rattle.formats.specs.declared.cube.Read.TheVariants as R
-use Rattle.formats.specs.declared.Reply.TheVariants as P
+use Rattle.formats.specs.declared.cube.Parts.TheVariants as P
 
 -- ---- replies
 
 module _ (a : Answer (List ℕ)) (from : List ℕ) where
-  pub replied_refused : (n k : ℕ) → a ≡ refusal n k → Replied a (P.Refused n k) from from
+  pub replied_refused : (n : Reason) (k : ℕ) → a ≡ refusal n k → Replied a (Err (refusal_at n k)) from from
   replied_refused n k e = rw e (record { answer = refl; bytes = refl })
 
-  pub replied_done : (ys to : List ℕ) (n : ℕ) → a ≡ ok ys → length ys ≡ n → to ≡ over ys from → Replied a (P.Done n) from to
+  pub replied_done : (ys to : List ℕ) (n : ℕ) → a ≡ ok ys → length ys ≡ n → to ≡ over ys from → Replied a (Ok n) from to
   replied_done ys to n e m f = rw (e, ← m) (record { answer = refl; bytes = f })
 
--- the reply to a line that was written
+-- the reply to a line of some bytes that was written or refused
+abbrev pub replied : Outcome → ℕ → Reply
+replied (Ok u) len = Ok len
+replied (Err e) len = Err e
+
 module _ {a : Answer (List ℕ)} {r : Outcome} {from to : List ℕ} (w : Wrote a r from to) where
-  pub wrote_reply : (n : ℕ) → ((ys : List ℕ) → a ≡ ok ys → length ys ≡ n) → r ≡ O.Done → Replied a (P.Done n) from to
+  pub wrote_reply : (n : ℕ) → ((ys : List ℕ) → a ≡ ok ys → length ys ≡ n) → r ≡ (Ok tt) → Replied a (Ok n) from to
   wrote_reply n f e =
       let d = done_of a (sym e ∙ w.answer) in
       replied_done a from d.value to n d.is (f d.value d.is) (w.bytes ∙ ap (λ (x : Answer (List ℕ)). laid x from) d.is)
 
-  pub wrote_no_reply : (n k : ℕ) → r ≡ O.Refused n k → Replied a (P.Refused n k) from to
-  wrote_no_reply n k e =
-      let d : a ≡ refusal n k = refused_of a n k (sym e ∙ w.answer) in
+  pub wrote_no_reply : (e : Refusal) → r ≡ Err e → Replied a (Err e) from to
+  wrote_no_reply e p =
+      let d : a ≡ refusal e.reason e.column = refused_of a e (sym p ∙ w.answer) in
       let f : to ≡ from = w.bytes ∙ ap (λ (x : Answer (List ℕ)). laid x from) d in
-      rw f (replied_refused a from n k d)
+      rw f (replied_refused a from e.reason e.column d)
 
   pub wrote_replied : (n : ℕ) → ((ys : List ℕ) → a ≡ ok ys → length ys ≡ n) → Replied a (replied r n) from to
   wrote_replied n f = by_outcome r refl
     where
       by_outcome : (o : Outcome) → r ≡ o → Replied a (replied o n) from to
-      by_outcome O.Done e = wrote_reply n f e
-      by_outcome (O.Refused m k) e = wrote_no_reply m k e
+      by_outcome (Ok u) e = wrote_reply n f e
+      by_outcome (Err r) e = wrote_no_reply r e
 
 pub replied_as : (a b : Answer (List ℕ)) (r : Reply) (from to : List ℕ) → b ≡ a → Replied b r from to → Replied a r from to
 replied_as a b r from to e w = rw (← e) w
@@ -113,20 +119,20 @@ text_fills fs vs t a b c =
 
 module _ (l out : List ℕ) (h : 268 ≤ length out) where
   -- a record of 268 bytes, over the first of `out`
-  made : (m : Message) (bytes to : List ℕ) → read_line l ≡ ok m → bytes ≡ record_of m → to ≡ over bytes out → Replied (read_into l (length out)) (P.Done 268) out to
+  made : (m : Message) (bytes to : List ℕ) → read_line l ≡ ok m → bytes ≡ record_of m → to ≡ over bytes out → Replied (read_into l (length out)) (Ok 268) out to
   made m bytes to e b f =
       replied_done _ out (record_of m) to 268 (into_read l (length out) h ∙ ap record_answer e) (record_size_lem m (line_accepted l m e).sized) (f ∙ ap (λ (x : List ℕ). over x out) b)
 
-  pub read_refused : (n k : ℕ) → line_read (read_line l) ≡ R.Refused n k → Replied (read_into l (length out)) (P.Refused n k) out out
-  read_refused n k q =
-      replied_refused _ out n k (into_read l (length out) h ∙ ap record_answer (was_refused (read_line l) n k q))
+  pub read_refused : (e : Refusal) → line_read (read_line l) ≡ Err e → Replied (read_into l (length out)) (Err e) out out
+  read_refused e q =
+      replied_refused _ out e.reason e.column (into_read l (length out) h ∙ ap record_answer (was_refused (read_line l) e q))
 
-  module _ (k t d n : ℕ) (q : line_read (read_line l) ≡ R.There k t d n) where
-    -- an event: its numbers and text stand in the arrays, with zeros after the text
-    pub read_event_lem : {f : List ℕ} {v : List ℤ} {x to : List ℕ} {r : Read} → LineRead (read_line l) (line_part l) r (replicate 19 0) f (replicate 19 (pos 0)) v (replicate 96 0) x → k ≡ event_kind → to ≡ over (packed event_kind f v x) out → Replied (read_into l (length out)) (P.Done 268) out to
-    read_event_lem {f} {v} {x} {to} w i = let u = was_there (read_line l) k t d n q in by_message u.message u.is u.says
+  -- an event: its numbers and text stand in the arrays, with zeros after the text
+  module _ (q : line_read (read_line l) ≡ Ok P.Event) where
+    pub read_event_lem : {f : List ℕ} {v : List ℤ} {x to : List ℕ} {r : Result Parts Refusal} → LineRead (read_line l) (line_part l) r (replicate 19 0) f (replicate 19 (pos 0)) v (replicate 96 0) x → to ≡ over (packed event_kind f v x) out → Replied (read_into l (length out)) (Ok 268) out to
+    read_event_lem {f} {v} {x} {to} w i = let u = was_there (read_line l) P.Event q in by_message u.message u.is u.says
       where
-        by_message : (m : Message) → read_line l ≡ ok m → line_read (ok m) ≡ R.There k t d n → to ≡ over (packed event_kind f v x) out → Replied (read_into l (length out)) (P.Done 268) out to
+        by_message : (m : Message) → read_line l ≡ ok m → line_read (ok m) ≡ Ok P.Event → Replied (read_into l (length out)) (Ok 268) out to
         by_message (event ns s) e p =
             let z = (line_accepted l (event ns s) e).sized in
             let a = line_part_lem l ns s e in
@@ -135,17 +141,18 @@ module _ (l out : List ℕ) (h : 268 ≤ length out) where
             let b : f ≡ flags_of ns = w.flags ∙ rw a.0 (over_whole (flags_of ns) (replicate 19 0) m) in
             let c : v ≡ values_of ns = w.values ∙ rw a.0 (over_whole (values_of ns) (replicate 19 (pos 0)) o) in
             let y : x ≡ over s (replicate 96 0) = w.chars ∙ rw a.1 in
-            made (event ns s) (packed event_kind f v x) to e (rw (b, c, y) (text_fills (flags_of ns) (values_of ns) s m o z.1))
-        by_message (delete names s) e p = let z : k ≡ delete_kind = cc in absurd (omega arith)
-        by_message (link names ty ad tx) e p = let z : k ≡ link_kind = cc in absurd (omega arith)
+            made (event ns s) (packed event_kind f v x) to e (rw (b, c, y) (text_fills (flags_of ns) (values_of ns) s m o z.1)) i
+        by_message (delete names s) e p = let z : ◌≡◌ {A = ℕ} 0 1 = cc in absurd (omega arith)
+        by_message (link names ty ad tx) e p = let z : ◌≡◌ {A = ℕ} 0 1 = cc in absurd (omega arith)
 
-    -- a link: its parts stand in the line
-    pub link_says : k ≡ link_kind → (17 + t + d ≤ length l) × ((length l ≤ 255) × (read_line l ≡ ok (link_of l t d)))
-    link_says i = let u = was_there (read_line l) k t d n q in by_message u.message u.is u.says
+  -- a link: its parts stand in the line
+  module _ (t d n : ℕ) (q : line_read (read_line l) ≡ Ok (P.Link t d n)) where
+    pub link_says : (17 + t + d ≤ length l) × ((length l ≤ 255) × (read_line l ≡ ok (link_of l t d)))
+    link_says = let u = was_there (read_line l) (P.Link t d n) q in by_message u.message u.is u.says
       where
-        by_message : (m : Message) → read_line l ≡ ok m → line_read (ok m) ≡ R.There k t d n → (17 + t + d ≤ length l) × ((length l ≤ 255) × (read_line l ≡ ok (link_of l t d)))
-        by_message (event ns s) e p = let z : k ≡ event_kind = cc in absurd (omega arith)
-        by_message (delete names s) e p = let z : k ≡ delete_kind = cc in absurd (omega arith)
+        by_message : (m : Message) → read_line l ≡ ok m → line_read (ok m) ≡ Ok (P.Link t d n) → (17 + t + d ≤ length l) × ((length l ≤ 255) × (read_line l ≡ ok (link_of l t d)))
+        by_message (event ns s) e p = let z : ◌≡◌ {A = ℕ} 0 1 = cc in absurd (omega arith)
+        by_message (delete names s) e p = let z : ◌≡◌ {A = ℕ} 0 1 = cc in absurd (omega arith)
         by_message (link names ty ad tx) e p =
             let w = (link_there l names ty ad tx e).1 in
             let j = w.is in
@@ -155,20 +162,21 @@ module _ (l out : List ℕ) (h : 268 ≤ length out) where
             let b : length (address_of l) ≡ d = ap length y ∙ cc in
             (omega (arith, parts_inside l w), (w.short, rw (← a, ← b, type_taken l, address_taken l, text_word l) (e ∙ ap ok (sym j))))
 
-    pub read_link_lem : {bytes to : List ℕ} → k ≡ link_kind → bytes ≡ record_of (link_of l t d) → to ≡ over bytes out → Replied (read_into l (length out)) (P.Done 268) out to
-    read_link_lem {bytes} {to} i = made _ bytes to (link_says i).1.1
+    pub read_link_lem : {bytes to : List ℕ} → bytes ≡ record_of (link_of l t d) → to ≡ over bytes out → Replied (read_into l (length out)) (Ok 268) out to
+    read_link_lem {bytes} {to} = made _ bytes to link_says.1.1
 
-    -- a delete: its record is the line after its type
-    pub delete_says : (k ≡ event_kind → ⊥) → (k ≡ link_kind → ⊥) → (13 ≤ length l) × ((length l ≤ 80) × (read_line l ≡ ok (delete_of l)))
-    delete_says i j = let u = was_there (read_line l) k t d n q in by_message u.message u.is u.says
+  -- a delete: its record is the line after its type
+  module _ (n : ℕ) (q : line_read (read_line l) ≡ Ok (P.Delete n)) where
+    pub delete_says : (13 ≤ length l) × ((length l ≤ 80) × (read_line l ≡ ok (delete_of l)))
+    delete_says = let u = was_there (read_line l) (P.Delete n) q in by_message u.message u.is u.says
       where
-        by_message : (m : Message) → read_line l ≡ ok m → line_read (ok m) ≡ R.There k t d n → (13 ≤ length l) × ((length l ≤ 80) × (read_line l ≡ ok (delete_of l)))
-        by_message (event ns s) e p = absurd (i (cc))
+        by_message : (m : Message) → read_line l ≡ ok m → line_read (ok m) ≡ Ok (P.Delete n) → (13 ≤ length l) × ((length l ≤ 80) × (read_line l ≡ ok (delete_of l)))
+        by_message (event ns s) e p = let z : ◌≡◌ {A = ℕ} 0 1 = cc in absurd (omega arith)
         by_message (delete names s) e p = let w = delete_there l names s e in (w.long, (w.short, e ∙ sym w.rest))
-        by_message (link names ty ad tx) e p = absurd (j (cc))
+        by_message (link names ty ad tx) e p = let z : ◌≡◌ {A = ℕ} 0 1 = cc in absurd (omega arith)
 
-    pub read_delete_lem : {bytes to : List ℕ} → (k ≡ event_kind → ⊥) → (k ≡ link_kind → ⊥) → bytes ≡ record_of (delete_of l) → to ≡ over bytes out → Replied (read_into l (length out)) (P.Done 268) out to
-    read_delete_lem {bytes} {to} i j = made (delete_of l) bytes to (delete_says i j).1.1
+    pub read_delete_lem : {bytes to : List ℕ} → bytes ≡ record_of (delete_of l) → to ≡ over bytes out → Replied (read_into l (length out)) (Ok 268) out to
+    read_delete_lem {bytes} {to} = made (delete_of l) bytes to delete_says.1.1
 
 -- ---- the bytes of a delete and of a link, from their lines
 
@@ -241,7 +249,7 @@ delete_named r n m = rw (ne_eqb (get_or r 0 0) event_kind n, ne_eqb (get_or r 0 
 
 -- by whether bytes are those of the message that they name
 module _ (r : List ℕ) (n : length r ≡ 268) (m : Message) (e : message_in r ≡ m) (out : List ℕ) {same : Bool} (s : same ≡ same_bytes (record_of m) r) where
-  pub no_record : same ≡ false → Replied (write_from r (length out)) (P.Refused bad_form 0) out out
+  pub no_record : same ≡ false → Replied (write_from r (length out)) (Err (refusal_at bad_form 0)) out out
   no_record q = replied_refused _ out bad_form 0 (from_other r (length out) n m e (sym s ∙ q))
 
   pub record_reply : same ≡ true → {k : Message} → k ≡ m → {o : Outcome} {to : List ℕ} (size : ℕ) → ((ys : List ℕ) → write_message m (length out) ≡ ok ys → length ys ≡ size) → Wrote (write_message k (length out)) o out to → Replied (write_from r (length out)) (replied o size) out to
@@ -272,7 +280,7 @@ module _ (r : List ℕ) (n : length r ≡ 268) (flags : List ℕ) (values : List
     event_same : same ≡ same_bytes (record_of (event_in r)) r
     event_same = s ∙ ap (λ (x : List ℕ). same_bytes x r) event_took
 
-    pub no_event : same ≡ false → Replied (write_from r (length out)) (P.Refused bad_form 0) out out
+    pub no_event : same ≡ false → Replied (write_from r (length out)) (Err (refusal_at bad_form 0)) out out
     no_event = no_record r n (event_in r) (event_named r k) out event_same
 
     pub event_reply : same ≡ true → (o : Outcome) (to : List ℕ) → Wrote (write_message (event (slots_of flags values) chars) (length out)) o out to → Replied (write_from r (length out)) (replied o 80) out to
@@ -306,7 +314,7 @@ module _ (r : List ℕ) (n : length r ≡ 268) (k : get_or r 0 0 ≡ event_kind 
     delete_same : same ≡ same_bytes (record_of (delete names chars)) r
     delete_same = s ∙ ap (λ (x : List ℕ). same_bytes x r) delete_took
 
-    pub no_delete : same ≡ false → Replied (write_from r (length out)) (P.Refused bad_form 0) out out
+    pub no_delete : same ≡ false → Replied (write_from r (length out)) (Err (refusal_at bad_form 0)) out out
     no_delete = no_record r n (delete names chars) delete_is_in out delete_same
 
     pub delete_reply : same ≡ true → (o : Outcome) (to : List ℕ) → Wrote (write_message (delete names (take (13 + len - 13) (drop 13 r))) (length out)) o out to → Replied (write_from r (length out)) (replied o (13 + len)) out to
@@ -314,6 +322,3 @@ module _ (r : List ℕ) (n : length r ≡ 268) (k : get_or r 0 0 ≡ event_kind 
         let z : 13 + len - 13 ≡ len = omega arith in
         record_reply r n (delete names chars) delete_is_in out delete_same q (rw z) (13 + len)
         (λ ys p. delete_size names chars ys (length out) names_length p ∙ ap (λ (x : ℕ). 13 + x) chars_length)
-
-pub replied_is : (a : Answer (List ℕ)) (r s : Reply) (from to : List ℕ) → r ≡ s → Replied a s from to → Replied a r from to
-replied_is a r s from to e w = rw e w

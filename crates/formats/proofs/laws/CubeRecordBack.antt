@@ -1,5 +1,6 @@
 -- What a CUBE record's bytes keep: one encoding for each record, what is written reads back to the same bytes, and the
 -- column of a refusal is one of the line's.
+use Rattle.columns.specs.declared.Reason.{Reason}
 use mathlib.Core.Path.{◌≡◌, refl, sym, ap, ◌∙◌, subst}
 use mathlib.Core.Bool.{Bool, true, false, ◌&&◌}
 use mathlib.Core.List.{List, []}
@@ -9,7 +10,7 @@ use lib.ListN.{length, take, drop, get_or, length-drop, length-take}
 use lib.Dec.{eqb, ltb}
 use lib.Seq.{length-take-le}
 use borrow.Author.Tests.{ltb-false}
-use Rattle.columns.specs.Answer.{pick, Answer, ok, refusal, bad_form, too_short, barred_byte, unless, differs}
+use Rattle.columns.specs.Answer.{pick, Answer, ok, refusal, bad_form, too_short, barred_byte, wrong_length, unless, differs}
 use Rattle.columns.specs.Bytes.{same_bytes}
 use Rattle.columns.specs.Column.{Rec}
 use Rattle.columns.specs.Reading.{read_columns}
@@ -99,7 +100,7 @@ event_bound l =
     as_event_lem (refusal n k) h = h
 
 -- a test on a length, before what holds of bytes within the limit
-limit_case : {A : Type 0} (m most : ℕ) (t : Bool) (s : List ℕ) (x : Answer A) → ltb most (length s) ≡ t → (length s ≤ most → column_of x ≤ m) → column_of (unless t 1 0 x) ≤ m
+limit_case : {A : Type 0} (m most : ℕ) (t : Bool) (s : List ℕ) (x : Answer A) → ltb most (length s) ≡ t → (length s ≤ most → column_of x ≤ m) → column_of (unless t wrong_length 0 x) ≤ m
 limit_case m most true s x e f = omega arith
 limit_case m most false s x e f = f (ltb-false most (length s) e)
 
@@ -148,12 +149,12 @@ message_bound (delete names t) room = omega (arith, put_bound 13 13 (delete_line
 message_bound (link names ty ad tx) room = put_bound 20 14 (link_line names ty ad tx) (formed ty ad tx) room 255 (omega arith)
 
 -- bytes that are no record are refused at column 0
-none_case : (t u : Bool) (m : Message) (n k : ℕ) → unless t bad_form 0 (pick u (ok m) (refusal bad_form 0)) ≡ refusal n k → k ≡ 0
+none_case : (t u : Bool) (m : Message) (n : Reason) (k : ℕ) → unless t bad_form 0 (pick u (ok m) (refusal bad_form 0)) ≡ refusal n k → k ≡ 0
 none_case true u m n k e = cc
 none_case false true m n k e = let z : ◌≡◌ {A = ℕ} 0 1 = cc in let y : ⊥ = omega arith in absurd y
 none_case false false m n k e = cc
 
-none_bound : (r : List ℕ) (n k : ℕ) → read_record r ≡ refusal n k → k ≤ 255
+none_bound : (r : List ℕ) (n : Reason) (k : ℕ) → read_record r ≡ refusal n k → k ≤ 255
 unfolding read_record
 none_bound r n k e = omega (arith, none_case (ltb (length r) record_size) (same_bytes (record_of (message_in (take 268 r))) (take 268 r)) (message_in (take 268 r)) n k e)
 

@@ -1,32 +1,34 @@
--- What a line's outcome and its message say of it: the kind of the record that is there, or the refusal.
+-- What a line's outcome and its message say of it: the parts that are there, or the refusal.
+use Rattle.std.specs.Prelude.{Ok, Err}
+use Rattle.columns.specs.declared.Refusal.{Refusal}
 use mathlib.Core.Path.{◌≡◌, refl}
 use mathlib.Core.Bool.{true}
 use mathlib.Core.List.{List}
 use Prim.Native.Nat.{ℕ}
 use native.Mathlib.Omega.{arith}
-use Rattle.columns.specs.Answer.{Answer, ok, refusal}
+use Rattle.columns.specs.Answer.{refusal_at, Answer, ok, refusal}
 use Rattle.columns.specs.Column.{Slot}
 use Rattle.formats.specs.Cube.{Message, event, delete, link, delete_parts, is_type, read_delete, read_line, line_read}
 use Rattle.formats.proofs.laws.Cube.{TextRead, text_read, EventRead, event_read_lem, Came, by_event, by_delete, by_link, came}
 use Rattle.formats.proofs.laws.LinkBack.{ReadLink, link_read}
-use Rattle.formats.specs.declared.cube.Read.TheVariants as R
+use Rattle.formats.specs.declared.cube.Parts.{Parts}
 
 -- ---- by the outcome
 
-pub record WasThere (a : Answer Message) (k t d n : ℕ) : Type 0 where
+pub record WasThere (a : Answer Message) (p : Parts) : Type 0 where
   pub message : Message
   pub is : a ≡ ok message
-  pub says : line_read (ok message) ≡ R.There k t d n
+  pub says : line_read (ok message) ≡ Ok p
 
-pub was_there : (a : Answer Message) (k t d n : ℕ) → line_read a ≡ R.There k t d n → WasThere a k t d n
-was_there (ok m) k t d n e = record { message = m; is = refl; says = e }
-was_there (refusal m j) k t d n e = let z : ◌≡◌ {A = ℕ} 0 1 = cc in let y : ⊥ = omega arith in absurd y
+pub was_there : (a : Answer Message) (p : Parts) → line_read a ≡ Ok p → WasThere a p
+was_there (ok m) p e = record { message = m; is = refl; says = e }
+was_there (refusal m j) p e = let z : ◌≡◌ {A = ℕ} 0 1 = cc in let y : ⊥ = omega arith in absurd y
 
-pub was_refused : (a : Answer Message) (n k : ℕ) → line_read a ≡ R.Refused n k → a ≡ refusal n k
-was_refused (ok (event ns t)) n k e = let z : ◌≡◌ {A = ℕ} 0 1 = cc in let y : ⊥ = omega arith in absurd y
-was_refused (ok (delete names t)) n k e = let z : ◌≡◌ {A = ℕ} 0 1 = cc in let y : ⊥ = omega arith in absurd y
-was_refused (ok (link names ty ad tx)) n k e = let z : ◌≡◌ {A = ℕ} 0 1 = cc in let y : ⊥ = omega arith in absurd y
-was_refused (refusal m j) n k e = cc
+pub was_refused : (a : Answer Message) (r : Refusal) → line_read a ≡ Err r → a ≡ refusal r.reason r.column
+was_refused (ok (event ns t)) r e = let z : ◌≡◌ {A = ℕ} 0 1 = cc in let y : ⊥ = omega arith in absurd y
+was_refused (ok (delete names t)) r e = let z : ◌≡◌ {A = ℕ} 0 1 = cc in let y : ⊥ = omega arith in absurd y
+was_refused (ok (link names ty ad tx)) r e = let z : ◌≡◌ {A = ℕ} 0 1 = cc in let y : ⊥ = omega arith in absurd y
+was_refused (refusal m j) r e = let z : refusal_at m j ≡ r = cc in rw (← z)
 
 -- ---- by the message
 

@@ -1,5 +1,8 @@
 -- Each answer of a CUBE record that is written, as the code comes to it, and the bytes of its line.
-use mathlib.Core.Path.{◌≡◌, refl, sym, ap, ◌∙◌}
+use Rattle.std.specs.Prelude.{Ok, Err}
+use Rattle.columns.specs.declared.Reason.{Reason}
+use Rattle.columns.specs.declared.Refusal.{Refusal}
+use mathlib.Core.Path.{◌≡◌, refl, ap, ◌∙◌}
 use mathlib.Core.Bool.{Bool, true, false}
 use mathlib.Core.List.{List, [], ◌∷◌, ◌++◌}
 use Prim.Native.Nat.{ℕ, ◌+◌, ◌≤◌, ◌<◌}
@@ -7,8 +10,7 @@ use native.Mathlib.Omega.{arith}
 use lib.ListN.{length, take, set, replicate, length-append, length-set}
 use lib.Dec.{ltb}
 use borrow.Author.Tests.{le-ltb, lt-ltb, ltb-false}
-use lib.Seq.{take_at, take_all, set_at}
-use Rattle.columns.specs.declared.Outcome.{Outcome}
+use lib.Seq.{take_at, set_at}
 use Rattle.columns.specs.Answer.{pick, ok, refusal, unless, differs, barred_byte, bad_form, too_short, wrong_length}
 use Rattle.columns.specs.Column.{Slot}
 use Rattle.columns.specs.Writing.{write_columns, write_part, in_place}
@@ -20,7 +22,6 @@ use Rattle.columns.proofs.laws.Answers.{passed, held, wrote_refused, wrote_whole
 use Rattle.columns.proofs.laws.Columns.{columns_size}
 use Rattle.columns.proofs.laws.Writer.{part_wrote}
 use Rattle.formats.proofs.laws.EventColumns.{event_sound}
-use Rattle.columns.specs.declared.Outcome.TheVariants as O
 
 -- ---- a DE or an LI line
 
@@ -84,7 +85,7 @@ module _ (ns : List Slot) (t : List ℕ) (room : ℕ) where
   put_event_short h = rw (lt-ltb _ _ h)
 
   module _ (h : 80 ≤ room) where
-    pub put_event_refused : (m j : ℕ) → write_columns event_columns [] 2 ns t ≡ refusal m j → write_message (event ns t) room ≡ refusal m j
+    pub put_event_refused : (m : Reason) (j : ℕ) → write_columns event_columns [] 2 ns t ≡ refusal m j → write_message (event ns t) room ≡ refusal m j
     unfolding write_message
     put_event_refused m j e = rw (le-ltb _ _ h, e)
 
@@ -106,17 +107,14 @@ sealed_line ys line c n e q =
     ap (λ (x : List ℕ). set x 79 c) a ∙ set_at (69 ∷ 32 ∷ ys) 32 [] c 79 p ∙ ap (λ (x : ℕ). (69 ∷ 32 ∷ ys) ++ x ∷ []) (q ∙ ap check_character b)
 
 module _ (ns : List Slot) (t from : List ℕ) (h : 80 ≤ length from) {line : List ℕ} where
-  pub event_refused : (r : Outcome) (m j : ℕ) (to : List ℕ) (n : ℕ) (x : List ℕ) → r ≡ O.Refused m j → WrotePart (write_columns event_columns [] 2 ns t) (write_part event_columns [] 2 ns t) 2 r blank_event line → n ≡ 0 → to ≡ over (take n x) from → Wrote (write_message (event ns t) (length from)) r from to
-  event_refused r m j to n x e p z q =
-      let f : to ≡ from = q ∙ rw z in
-      rw (e, f) (wrote_refused _ from m j (put_event_refused ns t (length from) h m j (refused_of (write_columns event_columns [] 2 ns t) m j (sym e ∙ p.answer))))
+  pub event_refused : (e : Refusal) → WrotePart (write_columns event_columns [] 2 ns t) (write_part event_columns [] 2 ns t) 2 (Err e) blank_event line → Wrote (write_message (event ns t) (length from)) (Err e) from from
+  event_refused e p =
+      wrote_refused _ from e.reason e.column (put_event_refused ns t (length from) h e.reason e.column (refused_of (write_columns event_columns [] 2 ns t) e p.answer))
 
-  pub event_done : (r : Outcome) (to : List ℕ) (n c : ℕ) → length ns ≡ 19 → length t ≡ 13 → r ≡ O.Done → WrotePart (write_columns event_columns [] 2 ns t) (write_part event_columns [] 2 ns t) 2 r blank_event line → c ≡ check_character (take 79 line) → n ≡ 80 → to ≡ over (take n (set line 79 c)) from → Wrote (write_message (event ns t) (length from)) r from to
-  event_done r to n c a b e p k z q =
-      let d = done_of (write_columns event_columns [] 2 ns t) (sym e ∙ p.answer) in
+  pub event_done : (to : List ℕ) (c : ℕ) → length ns ≡ 19 → length t ≡ 13 → WrotePart (write_columns event_columns [] 2 ns t) (write_part event_columns [] 2 ns t) 2 (Ok tt) blank_event line → c ≡ check_character (take 79 line) → to ≡ over (set line 79 c) from → Wrote (write_message (event ns t) (length from)) (Ok tt) from to
+  event_done to c a b p k q =
+      let d = done_of (write_columns event_columns [] 2 ns t) p.answer in
       let v : length d.value ≡ 77 = columns_size event_columns [] 2 ns t d.value event_sound.fine (omega (arith, a, event_sound.numbers)) (omega (arith, b, event_sound.chars)) d.is ∙ event_sound.wide in
       let u : line ≡ placed 2 d.value blank_event = p.bytes ∙ ap (λ (x : List ℕ). placed 2 x blank_event) (part_wrote event_columns [] 2 ns t d.value d.is) in
       let s : set line 79 c ≡ sealed d.value = sealed_line d.value line c v u k in
-      let l : length (sealed d.value) ≡ 80 = omega (arith, length-append (69 ∷ 32 ∷ d.value) (check_character (69 ∷ 32 ∷ d.value) ∷ [])) in
-      let w : take n (set line 79 c) ≡ sealed d.value = ap (λ (m : ℕ). take m (set line 79 c)) z ∙ ap (take 80) s ∙ take_all 80 (sealed d.value) (omega arith) in
-      rw e (wrote_whole (put_event ns t (length from) h d.value d.is) (q ∙ ap (λ (x : List ℕ). over x from) w))
+      wrote_whole (put_event ns t (length from) h d.value d.is) (q ∙ ap (λ (x : List ℕ). over x from) s)

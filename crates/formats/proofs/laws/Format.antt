@@ -8,14 +8,14 @@ use lib.Dec.{T, leb, ltb, eqb, leb→le, lit≤}
 use borrow.Author.Tests.{ltb-true, ne_eqb}
 use lib.Seq.{take_all}
 use lib.IntN.{ℤ}
-use lib.ListN.{length, drop, get_or, length-append}
+use lib.ListN.{length, take, drop, get_or, length-append}
 use Rattle.columns.specs.Answer.{pick}
 use Rattle.columns.specs.Bytes.{all_text}
 use Rattle.columns.specs.Column.{Slot, Col, widths, all_slots, all_texts}
 use Rattle.columns.specs.Reading.{read_columns, read_part}
 use Rattle.columns.specs.Table.{columns_of, sizes_of, over, Table, ReadPart, Wrote}
 use Rattle.columns.specs.Row.{fits, Fits, write_whole}
-use Rattle.columns.specs.declared.Outcome.{Outcome}
+use Rattle.columns.specs.Table.{Outcome}
 use Rattle.columns.proofs.laws.Tests.{T_and, T_true}
 use Rattle.columns.proofs.laws.Bytes.{same_self}
 use Rattle.columns.proofs.laws.Clear.{Clear, text_clear}
@@ -146,17 +146,17 @@ phase_header_lem kind n = rw (ne_eqb kind 5 n)
 
 -- it holds the columns of all row formats: computed where the table is handed over
 abbrev pub Holds : List ℕ → List ℤ → List ℕ → Type 0
-Holds s rs ls = columns_of s rs ls 0 (length s) ≡ table_columns
+Holds s rs ls = columns_of s rs ls ≡ table_columns
 
 module _ (s : List ℕ) (rs : List ℤ) (ls : List ℕ) where
   record Rows (p : Place) : Type 0 where
     inside : p.first + length p.format.columns ≤ length s
-    is : columns_of s rs ls p.first (length p.format.columns) ≡ p.format.columns
+    is : columns_of (take (length p.format.columns) (drop p.first s)) rs ls ≡ p.format.columns
 
-  among : (F : RowFormat) (a c : List Col) → columns_of s rs ls 0 (length s) ≡ a ++ (F.columns ++ c) → Rows (place_at F (length a))
+  among : (F : RowFormat) (a c : List Col) → columns_of s rs ls ≡ a ++ (F.columns ++ c) → Rows (place_at F (length a))
   among F a c e = let q = columns_among s rs ls a F.columns c e in record { inside = q.0; is = q.1 }
 
-  place_rows : Holds s rs ls → (kind : ℕ) (Fs : List RowFormat) (a : List Col) → columns_of s rs ls 0 (length s) ≡ a ++ all_columns Fs → Rows (place_in kind (length a) Fs)
+  place_rows : Holds s rs ls → (kind : ℕ) (Fs : List RowFormat) (a : List Col) → columns_of s rs ls ≡ a ++ all_columns Fs → Rows (place_in kind (length a) Fs)
   place_rows e kind [] a q = among phase_format [] (all_columns other_formats) e
   place_rows e kind (F ∷ Fs) a q =
       let n : length (a ++ F.columns) ≡ length a + length F.columns = length-append a F.columns in
@@ -165,7 +165,7 @@ module _ (s : List ℕ) (rs : List ℤ) (ls : List ℕ) where
 
   module _ {kind : ℕ} {f : Format} (o : Formed kind f) where
     abbrev there : List Col
-    there = columns_of s rs ls f.first f.rows
+    there = columns_of (take f.rows (drop f.first s)) rs ls
 
     rows_of : Holds s rs ls → (f.first + f.rows ≤ length s) × (there ≡ (format_of kind).columns)
     unfolding format_of first_row

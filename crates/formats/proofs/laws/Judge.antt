@@ -1,4 +1,5 @@
 -- An acceptable E line and an acceptable LI line, as the code comes to them.
+use Rattle.std.specs.Prelude.{Ok}
 use mathlib.Core.Path.{◌≡◌, refl, sym, ap, ◌∙◌}
 use mathlib.Core.Bool.{Bool, true, false}
 use mathlib.Core.List.{List, []}
@@ -12,11 +13,11 @@ use Rattle.columns.specs.Column.{Rec}
 use Rattle.columns.specs.Reading.{read_columns}
 use Rattle.columns.proofs.laws.Tests.{and_false}
 use Rattle.formats.specs.Check.{check_character}
-use Rattle.formats.specs.Cube.{event_columns, Message, event, delete, link, event_kind, delete_kind, link_kind, as_event, lowest_barred, read_event, read_line, line_read, is_type}
+use Rattle.formats.specs.Cube.{event_columns, Message, event, delete, link, as_event, lowest_barred, read_event, read_line, line_read, is_type}
 use Rattle.formats.specs.Judge.{is_event_answer, is_event_line, is_link_answer, is_link_line}
 use Rattle.formats.proofs.laws.Cube.{event_columns_lem, EventRead, line_event}
-use Rattle.formats.proofs.laws.CubeThere.{was_refused, event_there}
-use Rattle.formats.specs.declared.cube.Read.TheVariants as R
+use Rattle.formats.proofs.laws.CubeThere.{event_there}
+use Rattle.formats.specs.declared.cube.Parts.TheVariants as P
 
 as_event_is : (a : Answer Rec) → is_event_answer (as_event a) ≡ is_ok a
 as_event_is (ok r) = refl
@@ -85,15 +86,22 @@ module _ (l : List ℕ) where
 -- ---- a link, by the outcome of the line reader
 
 module _ (l : List ℕ) where
-  pub judged_link : (k t d x : ℕ) → line_read (read_line l) ≡ R.There k t d x → eqb k link_kind ≡ is_link_line l
+  pub judged_link : (t d n : ℕ) → line_read (read_line l) ≡ Ok (P.Link t d n) → true ≡ is_link_line l
   unfolding is_link_line
-  judged_link k t d x = by_answer (read_line l)
+  judged_link t d n = by_answer (read_line l)
     where
-      by_answer : (a : Answer Message) → line_read a ≡ R.There k t d x → eqb k link_kind ≡ is_link_answer a
-      by_answer (ok (event ns s)) p = let z : k ≡ event_kind = cc in rw z
-      by_answer (ok (delete names s)) p = let z : k ≡ delete_kind = cc in rw z
-      by_answer (ok (link names ty ad tx)) p = let z : k ≡ link_kind = cc in rw z
-      by_answer (refusal n j) p = let z : ◌≡◌ {A = ℕ} 0 1 = cc in let y : ⊥ = omega arith in absurd y
+      by_answer : (a : Answer Message) → line_read a ≡ Ok (P.Link t d n) → true ≡ is_link_answer a
+      by_answer (ok (event ns s)) p = let z : ◌≡◌ {A = ℕ} 0 1 = cc in absurd (omega arith)
+      by_answer (ok (delete names s)) p = let z : ◌≡◌ {A = ℕ} 0 1 = cc in absurd (omega arith)
+      by_answer (ok (link names ty ad tx)) p = refl
+      by_answer (refusal m j) p = let z : ◌≡◌ {A = ℕ} 0 1 = cc in absurd (omega arith)
 
-  pub judged_no_link : (n k : ℕ) → line_read (read_line l) ≡ R.Refused n k → false ≡ is_link_line l
-  judged_no_link n k q = sym (link_line_is l ∙ ap is_link_answer (was_refused (read_line l) n k q))
+  pub judged_no_link : ((t d n : ℕ) → line_read (read_line l) ≡ Ok (P.Link t d n) → ⊥) → false ≡ is_link_line l
+  unfolding is_link_line
+  judged_no_link = by_answer (read_line l)
+    where
+      by_answer : (a : Answer Message) → ((t d n : ℕ) → line_read a ≡ Ok (P.Link t d n) → ⊥) → false ≡ is_link_answer a
+      by_answer (ok (event ns s)) p = refl
+      by_answer (ok (delete names s)) p = refl
+      by_answer (ok (link names ty ad tx)) p = absurd (p _ _ _ refl)
+      by_answer (refusal m j) p = refl

@@ -8,7 +8,7 @@ use native.Mathlib.Omega.{arith}
 use native.Mathlib.Numerals.{add-one}
 use lib.Dec.{eqb}
 use lib.ListN.{length, take, drop, get_or, length-drop, length-append, drop_of_length-le, take-append-drop}
-use lib.Seq.{drop-cons, drop-drop, length-take-le}
+use lib.Seq.{drop-cons, drop-drop, length-take-le, take_all}
 use borrow.Author.Tests.{eq-eqb, ne_eqb, eqb-true, eqb-false}
 use Rattle.columns.specs.Answer.{pick}
 use Rattle.formats.specs.Lines.{on_first, lines_of, up_to, end_from, line_end}
@@ -38,6 +38,11 @@ lt_or_le zero zero = inr (omega arith)
 lt_or_le zero (suc b) = inl (omega arith)
 lt_or_le (suc a) zero = inr (omega arith)
 lt_or_le (suc a) (suc b) = elim (lt_or_le a b) [ inl p ↦ inl (omega (arith, p)) | inr p ↦ inr (omega (arith, p)) ]
+
+-- ---- all bytes from a place on
+
+pub rest_is : (s : List ℕ) (at : ℕ) → take (length s - at) (drop at s) ≡ drop at s
+rest_is s at = take_all (length s - at) (drop at s) (omega (arith, length-drop at s))
 
 -- ---- the bytes before the first of a code
 

@@ -1,6 +1,6 @@
 -- Laws of the parts of an LI line: words, and the parts as the code finds them.
 use mathlib.Core.Path.{◌≡◌, refl, sym, ap, ◌∙◌}
-use mathlib.Core.Bool.{Bool, true, false, not, ◌&&◌}
+use mathlib.Core.Bool.{Bool, true, false, not, ◌&&◌, false≢true}
 use mathlib.Core.List.{List, [], ◌∷◌, ◌++◌, append-nil}
 use Prim.Native.Nat.{ℕ, suc, ◌+◌, ◌-◌, ◌≤◌, ◌<◌}
 use native.Mathlib.Omega.{arith}
@@ -122,11 +122,6 @@ begun_is (b ∷ s) n = refl
 no_part : (t u : Bool) → u ≡ false → t && u ≡ false
 no_part t u e = rw e (and_false t)
 
--- a part that is missing
-pub no_address : (ty tx : List ℕ) → formed ty [] tx ≡ false
-unfolding formed is_whole_word
-no_address ty tx = no_part (leb (length ty) 16) (is_whole_word ty && (is_whole_word [] && begun tx)) (and_false (is_whole_word ty))
-
 pub no_text : (ty ad : List ℕ) → formed ty ad [] ≡ false
 unfolding formed begun
 no_text ty ad =
@@ -165,10 +160,6 @@ module _ (l : List ℕ) where
   unfolding text_of
   text_length = length-drop (17 + length (type_of l) + length (address_of l)) l
 
-  pub address_none : length l ≤ 15 + length (type_of l) → address_of l ≡ []
-  unfolding up_to
-  address_none h = sym address_word ∙ ap word (drop_of_length-le l {i = 16 + length (type_of l)} (omega arith))
-
   pub text_none : length l ≤ 16 + length (type_of l) + length (address_of l) → text_of l ≡ []
   text_none h = sym text_word ∙ drop_of_length-le l {i = 17 + length (type_of l) + length (address_of l)} (omega arith)
 
@@ -205,8 +196,28 @@ unfolding says_delete
 says_none = simp same_none
 
 module _ (l : List ℕ) (e : ℕ) (p : e ≡ end_from 32 l 15) where
-  pub no_address_says : length l ≤ e → false ≡ says_delete (text_of l)
-  no_address_says h = says_none ∙ ap says_delete (sym (text_none l (omega (arith, type_end_lem l e p))))
-
   pub no_text_says : (s : ℕ) → s ≡ end_from 32 l (e + 1) → length l ≤ s → false ≡ says_delete (text_of l)
   no_text_says s q h = says_none ∙ ap says_delete (sym (text_none l (omega (arith, address_end_lem l e p s q))))
+
+-- ---- the parts of a link, one test after the other
+
+and_yes : (a b c d : Bool) → (a && b) && c ≡ true → d ≡ a && (b && (c && d))
+and_yes true true true d e = refl
+and_yes true true false d e = absurd (false≢true e)
+and_yes true false c d e = absurd (false≢true e)
+and_yes false b c d e = absurd (false≢true e)
+
+and_no : (a b c d : Bool) → (a && b) && c ≡ false → false ≡ a && (b && (c && d))
+and_no true true true d e = absurd (false≢true (sym e))
+and_no true true false d e = refl
+and_no true false c d e = refl
+and_no false b c d e = refl
+
+module _ (ty ad tx : List ℕ) {v u : Bool} (e : v ≡ leb (length ty) 16 && is_whole_word ty) (f : u ≡ v && is_whole_word ad) where
+  pub formed_yes : u ≡ true → {r : Bool} → r ≡ begun tx → r ≡ formed ty ad tx
+  unfolding formed
+  formed_yes h q = rw q (and_yes (leb (length ty) 16) (is_whole_word ty) (is_whole_word ad) (begun tx) (rw e at (sym f) ∙ h))
+
+  pub formed_no : u ≡ false → u ≡ formed ty ad tx
+  unfolding formed
+  formed_no h = h ∙ and_no (leb (length ty) 16) (is_whole_word ty) (is_whole_word ad) (begun tx) (rw e at (sym f) ∙ h)

@@ -14,7 +14,7 @@ use Rattle.columns.proofs.laws.Tests.{and_false}
 use Rattle.formats.specs.Lines.{end_from}
 use Rattle.formats.specs.Link.{type_of, address_of, text_of, formed}
 use Rattle.formats.specs.Cube.{link, link_line, link_parts}
-use Rattle.formats.proofs.laws.Link.{address_none, text_none, no_address, no_text, type_end_lem, type_part, address_end_lem, address_part, text_part}
+use Rattle.formats.proofs.laws.Link.{text_none, no_text, type_part, address_end_lem, address_part, text_part}
 use Rattle.formats.proofs.laws.CubeWriting.{two_placed}
 use Rattle.columns.proofs.laws.Places.{part_over, set_over}
 
@@ -35,11 +35,6 @@ module _ (l : List ℕ) where
 
   -- the places where the code saw type and address end
   module _ (e : ℕ) (p : e ≡ end_from 32 l 15) where
-    pub parts_no_address : length l ≤ e → link_parts l ≡ refusal bad_form 15
-    parts_no_address h =
-        let a : address_of l ≡ [] = address_none l (omega (arith, type_end_lem l e p)) in
-        parts_malformed (rw a (no_address (type_of l) (text_of l)))
-
     module _ (s : ℕ) (q : s ≡ end_from 32 l (e + 1)) where
       pub parts_no_text : length l ≤ s → link_parts l ≡ refusal bad_form 15
       parts_no_text h =

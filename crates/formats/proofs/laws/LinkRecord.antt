@@ -1,4 +1,6 @@
 -- Laws of a link's record as bytes: what the code takes out of it, and that the record of a line is written as that line.
+use Rattle.std.specs.Prelude.{Err}
+use Rattle.columns.specs.Answer.{refusal_at}
 use mathlib.Core.Path.{◌≡◌, refl, sym, ap, ◌∙◌}
 use mathlib.Core.Bool.{Bool, true, false}
 use mathlib.Core.List.{List, ◌∷◌, ◌++◌, append_assoc}
@@ -6,19 +8,18 @@ use Prim.Native.Nat.{ℕ, ◌+◌, ◌-◌, ◌≤◌, ◌<◌}
 use native.Mathlib.Omega.{arith}
 use lib.ListN.{length, take, drop, get_or, replicate, length-drop, length-take}
 use lib.Seq.{take_at, drop_at, take-add, drop-drop, length-take-le}
-use Rattle.columns.specs.declared.Outcome.{Outcome}
+use Rattle.columns.specs.Table.{Outcome}
 use Rattle.columns.specs.Answer.{ok, bad_form}
 use Rattle.columns.specs.Table.{Wrote}
 use Rattle.formats.specs.Cube.{link, link_kind, read_line, write_message}
 use Rattle.columns.specs.Bytes.{same_bytes}
-use Rattle.formats.specs.Record.{replied, Replied}
+use Rattle.formats.specs.Record.{Replied}
 use Rattle.formats.specs.CubeRecord.{filled, record_of, message_in, write_from}
 use Rattle.columns.proofs.laws.Bytes.{same_is, same_self}
 use Rattle.formats.proofs.laws.LinkBack.{link_back_size}
 use Rattle.formats.proofs.laws.CubeBack.{Sized, line_accepted}
-use Rattle.formats.proofs.laws.CubeRecord.{no_record, record_reply, from_same, record_size_lem, link_named}
+use Rattle.formats.proofs.laws.CubeRecord.{no_record, record_reply, replied, from_same, record_size_lem, link_named}
 use Rattle.formats.proofs.laws.LinkFields.{link_written}
-use Rattle.formats.specs.declared.Reply.TheVariants as P
 
 -- what the code took out of a link's record
 module _ (r : List ℕ) (n : length r ≡ 268) (k : get_or r 0 0 ≡ link_kind) (t d x : ℕ) (i : get_or r 1 0 ≡ t) (j : get_or r 2 0 ≡ d) (p : get_or r 3 0 ≡ x) (out : List ℕ) where
@@ -48,7 +49,7 @@ module _ (r : List ℕ) (n : length r ≡ 268) (k : get_or r 0 0 ≡ link_kind) 
       absurd y
   past h false s = refl
 
-  pub link_past : 268 < 16 + t + d + x → Replied (write_from r (length out)) (P.Refused bad_form 0) out out
+  pub link_past : 268 < 16 + t + d + x → Replied (write_from r (length out)) (Err (refusal_at bad_form 0)) out out
   link_past h = no_record r n (link link_names kind address words) link_is_in out refl (past h _ refl)
 
   module _ (h : 16 + t + d + x ≤ 268) where
@@ -73,7 +74,7 @@ module _ (r : List ℕ) (n : length r ≡ 268) (k : get_or r 0 0 ≡ link_kind) 
       link_bytes_same : same ≡ same_bytes (record_of (link link_names kind address words)) r
       link_bytes_same = s ∙ ap (λ (x : List ℕ). same_bytes x r) link_took
 
-      pub no_link : same ≡ false → Replied (write_from r (length out)) (P.Refused bad_form 0) out out
+      pub no_link : same ≡ false → Replied (write_from r (length out)) (Err (refusal_at bad_form 0)) out out
       no_link = no_record r n (link link_names kind address words) link_is_in out link_bytes_same
 
       pub link_reply : same ≡ true → (o : Outcome) (to : List ℕ)

@@ -2,19 +2,14 @@
 use mathlib.Core.Path.{◌≡◌, refl, sym, ap, ◌∙◌}
 use mathlib.Core.Bool.{Bool, true, false}
 use mathlib.Core.List.{List, [], ◌∷◌, ◌++◌, append_assoc, append-nil}
-use Prim.Native.Nat.{ℕ, zero, suc, ◌+◌, ◌-◌, ◌*◌, ◌^◌, ◌≤◌, ◌<◌}
+use Prim.Native.Nat.{ℕ, zero, suc, ◌+◌, ◌-◌, ◌*◌, ◌≤◌, ◌<◌}
 use native.Mathlib.Nat.{mul-suc}
 use native.Mathlib.Numerals.{add-one}
 use native.Mathlib.Omega.{arith}
 use lib.ListN.{length, take, drop, get_or, set, length-append}
-use lib.Seq.{drop-drop, take-suc, take_all, length-take-le, get_or-drop}
-use lib.Dec.{ltb, eqb}
-use lib.IntN.{ℤ, pos, negsuc, nat_abs, ◌-ℤ◌}
-use lib.Signed.{lt_z}
-use mir.Syntax.{w64}
-use mir.Val.{SFits, to_z, of_z}
-use mir.ValLaws.{to_z-of_z, to_z_pos}
-use borrow.Author.Tests.{ltb-true, lt-ltb, le-ltb}
+use lib.Seq.{drop-drop, take-suc, length-take-le, get_or-drop}
+use lib.Dec.{eqb}
+use lib.IntN.{ℤ, pos}
 use borrow.Rule.Slice.PartMut.{put_mid, mid_of, mid_len}
 use Rattle.columns.specs.Answer.{pick}
 use Rattle.columns.specs.Word.{word_bytes, word_of}
@@ -24,49 +19,7 @@ use Rattle.columns.proofs.laws.Places.{placed_length, placed_placed, part_placed
 use Rattle.columns.proofs.laws.Word.{word_length}
 use Rattle.columns.proofs.laws.Table.{flags_length, values_length, flags_last, values_last}
 use Rattle.columns.proofs.laws.Answers.{over_whole}
-use Rattle.formats.specs.Record.{pattern_of, signed_of, all_ones, top_bit, words_by, value_bytes, packed, slots_in}
-
--- ---- signs
-
-pub record Pattern (v : ℤ) : Type 0 where
-  pub low : 1 ≤ nat_abs v
-  pub high : nat_abs v ≤ top_bit
-  pub is : all_ones - (nat_abs v - 1) ≡ pattern_of v
-
-pub pattern_neg : (v : ℤ) → SFits w64 v → lt_z (to_z w64 (of_z w64 v)) (pos 0) ≡ true → Pattern v
-pattern_neg (pos n) s t =
-    let e : ltb n 0 ≡ true = rw (to_z-of_z w64 (pos n) s) at t in
-    let y : ⊥ = omega (arith, ltb-true n 0 e) in absurd y
-pattern_neg (negsuc n) s t =
-    let h : n < 2 ^ 63 = s.sfits in
-    let z : suc n - 1 ≡ n = omega arith in
-    record { low = omega arith; high = omega arith; is = rw z }
-
-pub pattern_pos : (v : ℤ) → SFits w64 v → lt_z (to_z w64 (of_z w64 v)) (pos 0) ≡ false → nat_abs v ≡ pattern_of v
-pattern_pos (pos n) s t = refl
-pattern_pos (negsuc n) s t =
-    let e : true ≡ false = rw (to_z-of_z w64 (negsuc n) s) at t in
-    let z : ◌≡◌ {A = ℕ} 0 1 = cc in let y : ⊥ = omega arith in absurd y
-
-pub signed_low : (u : ℕ) → u < top_bit → to_z w64 u ≡ signed_of u
-signed_low u h = to_z_pos w64 u h ∙ rw (lt-ltb u top_bit h)
-
-one_less : (n : ℕ) → negsuc 0 -ℤ pos n ≡ negsuc n
-one_less zero = refl
-one_less (suc n) = let z : 0 + n ≡ n = omega arith in ap (λ (x : ℕ). negsuc (suc x)) z
-
-module _ (u : ℕ) (h : top_bit ≤ u) (k : u ≤ all_ones) where
-  less_is : negsuc 0 -ℤ to_z w64 (all_ones - u) ≡ negsuc (all_ones - u)
-  less_is = ap (λ (x : ℤ). negsuc 0 -ℤ x) (to_z_pos w64 (all_ones - u) (omega arith)) ∙ one_less (all_ones - u)
-
-  less_fits : SFits w64 (negsuc (all_ones - u))
-  less_fits = record { sfits = omega arith }
-
-  pub signed_fits : SFits w64 (negsuc 0 -ℤ to_z w64 (all_ones - u))
-  signed_fits = rw less_is less_fits
-
-  pub signed_high : to_z w64 (of_z w64 (negsuc 0 -ℤ to_z w64 (all_ones - u))) ≡ signed_of u
-  signed_high = rw (less_is, to_z-of_z w64 (negsuc (all_ones - u)) less_fits, le-ltb u top_bit h)
+use Rattle.formats.specs.Record.{pattern_of, signed_of, words_by, value_bytes, packed, slots_in}
 
 -- ---- numbers of w bytes each
 
@@ -105,9 +58,6 @@ module _ {A : Type 0} (w : ℕ) (word : A → ℕ) where
       ∙ placed_placed 0 at (words_by w word (take i xs)) ys l z (omega arith)
       ∙ ap (λ (x : List ℕ). over x l) (ap (λ (x : List ℕ). words_by w word (take i xs) ++ x) y ∙ sym (words_more d xs i h))
 
-  pub words_end : (xs : List A) (l out : List ℕ) (i : ℕ) → length xs ≤ i → out ≡ over (words_by w word (take i xs)) l → out ≡ over (words_by w word xs) l
-  words_end xs l out i k q = q ∙ ap (λ (x : List A). over (words_by w word x) l) (take_all i xs k)
-
 -- ---- the bytes of values
 
 pub bytes_length : (vs : List ℤ) → length (value_bytes vs) ≡ 8 * length vs
@@ -117,9 +67,6 @@ bytes_length vs = words_length 8 pattern_of vs
 pub values_turn : (vs : List ℤ) (l out ys : List ℕ) (i at : ℕ) (n : ℕ) → i < length vs → 8 * length vs ≤ length l → at ≡ 8 * i → out ≡ over (value_bytes (take i vs)) l → n ≡ pattern_of (get_or vs i (pos 0)) → ys ≡ word_bytes (length (mid_of at (at + 8 - at) out)) n → put_mid at (at + 8 - at) out ys ≡ over (value_bytes (take (i + 1) vs)) l
 values_turn vs l out ys i at n h k e q p r =
     words_turn 8 pattern_of (pos 0) vs l out ys i at n h (bytes_length (take i vs) ∙ omega (arith, length-take-le i vs (omega arith))) (omega arith) q p r
-
-pub values_end : (vs : List ℤ) (l out : List ℕ) (i : ℕ) → i ≤ length vs → length vs ≤ i → out ≡ over (value_bytes (take i vs)) l → out ≡ over (value_bytes vs) l
-values_end vs l out i h k q = words_end 8 pattern_of vs l out i k q
 
 -- ---- a whole record, part by part
 

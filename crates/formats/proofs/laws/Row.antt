@@ -1,5 +1,11 @@
 -- Laws of a row's line, over its list of columns: what a line that was read has passed; every record that is written reads back
+use Rattle.std.specs.Prelude.{Ok, Err}
+use Rattle.formats.specs.Row.{Made, too_long, has_barred, well}
+use Rattle.columns.specs.declared.Refusal.{Refusal}
+use Rattle.columns.specs.Answer.{refusal_at}
+use Rattle.columns.specs.Table.{flags_of, values_of}
 -- the same, and every record that was read is written.
+use Rattle.std.specs.Prelude.{Ok}
 use mathlib.Core.Path.{◌≡◌, refl, sym, ◌∙◌}
 use mathlib.Core.Bool.{false}
 use mathlib.Core.Logic.{inl, inr}
@@ -17,7 +23,7 @@ use Rattle.columns.specs.Reading.{read_columns, read_part}
 use Rattle.columns.specs.Writing.{write_line}
 use Rattle.columns.specs.Table.{ReadPart}
 use Rattle.columns.specs.Row.{Fits}
-use Rattle.columns.proofs.laws.Answers.{passed, over_whole, done_of, differs_not, differs_same}
+use Rattle.columns.proofs.laws.Answers.{passed, over_whole, done_of, differs_not, differs_is, differs_same}
 use Rattle.columns.proofs.laws.Bounds.{column_of, pick_bound, barred_bound, read_bound}
 use Rattle.columns.proofs.laws.Clear.{Clear, clear_blanks, clear_drop, clear_none, barred_clear}
 use Rattle.columns.proofs.laws.Columns.{Line, columns_back}
@@ -29,8 +35,7 @@ use Rattle.formats.specs.Row.{lowest_barred_byte, blank_filled, read_row, row_pa
 use Rattle.formats.specs.Format.{format_of, Formed}
 use Rattle.formats.specs.declared.format.Format.{Format}
 use Rattle.formats.proofs.laws.Lines.{lt_or_le}
-use Rattle.columns.specs.declared.Outcome.{Outcome}
-use Rattle.columns.specs.declared.Outcome.TheVariants as O
+use Rattle.columns.specs.Table.{Outcome}
 
 pub filled_size : (w : ℕ) (l : List ℕ) → length l ≤ w → length (blank_filled w l) ≡ w
 filled_size w l h = length-append l (drop (length l) (replicate w 32)) ∙ omega (arith, length-drop {A = ℕ} (length l) (replicate w 32), length-replicate {A = ℕ} w 32)
@@ -77,6 +82,22 @@ row_passed cs l m e =
 
 -- ---- the lent record
 
+-- a line whose length or bytes are refused: nothing of it stands in the lent record
+pub made_unread : {cs : List Col} {l : List ℕ} {o : Outcome} → Made cs l o → (e : Refusal) → o ≡ Err e → {f t : List ℕ} {v : List ℤ} → ReadPart (read_row cs l) (row_part cs l) (Err e) f f v v t t
+unfolding read_row row_part flags_of values_of
+made_unread {cs} {l} (too_long h) e q =
+    let z : refusal_at wrong_length 0 ≡ e = cc in
+    rw (← z, lt-ltb (widths cs) (length l) h) (record { answer = refl; flags = refl; values = refl; chars = refl })
+made_unread {cs} {l} (has_barred h n) e q =
+    let z : refusal_at barred_byte (lowest_barred_byte l) ≡ e = cc in
+    rw (← z, le-ltb (widths cs) (length l) h, differs_is (lowest_barred_byte l) 0 n) (record { answer = refl; flags = refl; values = refl; chars = refl })
+made_unread (well h n) e q = let z : ◌≡◌ {A = ℕ} 0 1 = cc in absurd (omega arith)
+
+pub made_passed : {cs : List Col} {l : List ℕ} {o : Outcome} → Made cs l o → o ≡ Ok tt → (length l ≤ widths cs) × (lowest_barred_byte l ≡ 0)
+made_passed (too_long h) q = let z : ◌≡◌ {A = ℕ} 0 1 = cc in absurd (omega arith)
+made_passed (has_barred h n) q = let z : ◌≡◌ {A = ℕ} 0 1 = cc in absurd (omega arith)
+made_passed (well h n) q = (h, n)
+
 -- a line that passes its length and its bytes is read by its columns, from an array that is longer than the full width
 pub row_read : {kind : ℕ} {f : Format} (o : Formed kind f) (l : List ℕ) {x a a₁ t t₁ : List ℕ} {v v₁ : List ℤ} {r : Outcome} → length l ≤ f.width → lowest_barred_byte l ≡ 0 → x ≡ blank_filled 256 l → ReadPart (read_columns (format_of kind).columns [] 0 (take (f.width - 0) (drop 0 x))) (read_part (format_of kind).columns [] 0 (take (f.width - 0) (drop 0 x))) r a a₁ v v₁ t t₁ → ReadPart (read_row (format_of kind).columns l) (row_part (format_of kind).columns l) r a a₁ v v₁ t t₁
 unfolding read_row row_part
@@ -86,7 +107,7 @@ row_read {kind} {f} o l h e q p =
     rw (le-ltb w (length l) k, differs_not (lowest_barred_byte l) 0 e) (rw (q, filled_part l w f.width 256 o.width k o.fits.wide) at p)
 
 -- what was read stands there
-pub row_whole : (cs : List Col) (l : List ℕ) {f f₁ t t₁ : List ℕ} {v v₁ : List ℤ} → ReadPart (read_row cs l) (row_part cs l) O.Done f f₁ v v₁ t t₁ → Whole (read_row cs l) f f₁ v v₁ t t₁
+pub row_whole : (cs : List Col) (l : List ℕ) {f f₁ t t₁ : List ℕ} {v v₁ : List ℤ} → ReadPart (read_row cs l) (row_part cs l) (Ok tt) f f₁ v v₁ t t₁ → Whole (read_row cs l) f f₁ v v₁ t t₁
 unfolding read_row row_part
 row_whole cs l p =
     let d = done_of (read_row cs l) p.answer in

@@ -1,32 +1,31 @@
 -- Laws of a row's record as bytes, over its format: each answer as the code comes to it.
+use Rattle.std.specs.Prelude.{Ok, Err}
+use Rattle.columns.specs.declared.Refusal.{Refusal}
 use mathlib.Core.Bool.{Bool, true, false}
 use mathlib.Core.Path.{◌≡◌, refl, sym, ap, ◌∙◌}
 use mathlib.Core.List.{List}
 use Prim.Native.Nat.{ℕ, ◌+◌, ◌*◌, ◌-◌, ◌≤◌, ◌<◌}
 use native.Mathlib.Omega.{arith}
-use lib.ListN.{length, take, drop, length-drop, length-append}
+use lib.ListN.{length, take, drop, length-drop}
 use lib.Seq.{take_all, take_at, length-take-le}
 use lib.IntN.{ℤ}
 use borrow.Author.Tests.{lt-ltb, le-ltb}
-use Rattle.columns.specs.Answer.{pick, ok, refusal, too_short, bad_form}
+use Rattle.columns.specs.Answer.{pick, ok, refusal, refusal_at, too_short, bad_form}
 use Rattle.columns.specs.Column.{Rec, all_slots, all_texts}
 use Rattle.columns.specs.Table.{flags_of, values_of, over, slots_of, ReadPart, Wrote}
 use Rattle.columns.specs.Row.{whole, write_whole, row_size}
-use Rattle.columns.specs.declared.Outcome.{Outcome}
 use Rattle.columns.proofs.laws.Answers.{over_whole, held, refused_of}
 use Rattle.columns.proofs.laws.Table.{flags_length, values_length, slots_back}
 use Rattle.columns.specs.Writing.{write_line}
 use Rattle.columns.specs.Bytes.{same_bytes}
-use Rattle.formats.specs.Record.{packed, Replied, slots_in, replied}
+use Rattle.formats.specs.Record.{packed, Replied, slots_in}
 use Rattle.formats.specs.Row.{RowFormat, read_row, row_part, write_row, row_bytes, row_in, named_row, read_row_record, row_answer, read_row_into, row_line_answer, write_row_from}
 use Rattle.formats.specs.Format.{format_of, Formed}
 use Rattle.formats.specs.declared.format.Format.{Format}
-use Rattle.formats.specs.declared.Reply.{Reply}
+use Rattle.formats.specs.Record.{Reply}
 use Rattle.formats.proofs.laws.Record.{packed_length, numbers_length}
-use Rattle.formats.proofs.laws.CubeRecord.{replied_refused, replied_done, replied_as, wrote_replied}
+use Rattle.formats.proofs.laws.CubeRecord.{replied_refused, replied_done, replied_as, wrote_reply, wrote_no_reply}
 use Rattle.formats.proofs.laws.Row.{row_accepted, row_size_lem, row_whole}
-use Rattle.columns.specs.declared.Outcome.TheVariants as O
-use Rattle.formats.specs.declared.Reply.TheVariants as R
 
 -- the first of what stands over the first places
 pub over_part : {A : Type 0} (xs l : List A) (n : ℕ) → length xs ≡ n → take (n - 0) (drop 0 (over xs l)) ≡ xs
@@ -66,24 +65,16 @@ module _ {kind : ℕ} {f : Format} (o : Formed kind f) where
 
   -- ---- a line read into a record
 
-  -- the arrays that it was read into have room for it
-  pub row_room : (l : List ℕ) {f₀ f₁ t₀ t₁ : List ℕ} {v₀ v₁ : List ℤ} → ReadPart (read_row F.columns l) (row_part F.columns l) O.Done f₀ f₁ v₀ v₁ t₀ t₁ → (f.numbers ≤ length f₁) × ((f.numbers ≤ length v₁) × (f.texts ≤ length t₁))
-  row_room l p =
-      let w = row_whole F.columns l p in
-      let n = w.value.numbers in
-      let a = row_accepted F.columns o.fits l w.value w.is in
-      (omega (arith, ap length w.flags ∙ length-append (flags_of n) _, flags_length n, a.numbers, o.numbers), (omega (arith, ap length w.values ∙ length-append (values_of n) _, values_length n, a.numbers, o.numbers), omega (arith, ap length w.chars ∙ length-append w.value.chars _, a.chars, o.texts)))
-
   module _ (l out : List ℕ) where
-    pub row_into_short : length out < size → Replied (read_row_into F l (length out)) (R.Refused too_short 0) out out
+    pub row_into_short : length out < size → Replied (read_row_into F l (length out)) (Err (refusal_at too_short 0)) out out
     unfolding read_row_into
     row_into_short h = let k : length out < row_size F.columns = omega (arith, size_is) in replied_refused _ out too_short 0 (rw (lt-ltb (length out) (row_size F.columns) k))
 
     module _ (h : size ≤ length out) {f₀ f₁ : List ℕ} {v₀ v₁ : List ℤ} {t₀ t₁ : List ℕ} where
-      pub row_into_refused : (n k : ℕ) → ReadPart (read_row F.columns l) (row_part F.columns l) (O.Refused n k) f₀ f₁ v₀ v₁ t₀ t₁ → Replied (read_row_into F l (length out)) (R.Refused n k) out out
-      row_into_refused n k p = replied_refused _ out n k (row_into_read F l (length out) (omega (arith, size_is)) ∙ ap (row_answer F) (refused_of (read_row F.columns l) n k p.answer))
+      pub row_into_refused : (e : Refusal) → ReadPart (read_row F.columns l) (row_part F.columns l) (Err e) f₀ f₁ v₀ v₁ t₀ t₁ → Replied (read_row_into F l (length out)) (Err e) out out
+      row_into_refused e p = replied_refused _ out e.reason e.column (row_into_read F l (length out) (omega (arith, size_is)) ∙ ap (row_answer F) (refused_of (read_row F.columns l) e p.answer))
 
-      pub row_into_done : (to : List ℕ) → ReadPart (read_row F.columns l) (row_part F.columns l) O.Done f₀ f₁ v₀ v₁ t₀ t₁ → to ≡ over (packed f.kind (take (f.numbers - 0) (drop 0 f₁)) (take (f.numbers - 0) (drop 0 v₁)) (take (f.texts - 0) (drop 0 t₁))) out → Replied (read_row_into F l (length out)) (R.Done size) out to
+      pub row_into_done : (to : List ℕ) → ReadPart (read_row F.columns l) (row_part F.columns l) (Ok tt) f₀ f₁ v₀ v₁ t₀ t₁ → to ≡ over (packed f.kind (take (f.numbers - 0) (drop 0 f₁)) (take (f.numbers - 0) (drop 0 v₁)) (take (f.texts - 0) (drop 0 t₁))) out → Replied (read_row_into F l (length out)) (Ok size) out to
       row_into_done to p y =
           let w = row_whole F.columns l p in
           let m = w.value in
@@ -97,7 +88,7 @@ module _ {kind : ℕ} {f : Format} (o : Formed kind f) where
   -- ---- a line written from a record
 
   module _ (r out : List ℕ) where
-    pub row_from_short : length r < size → Replied (write_row_from F r (length out)) (R.Refused bad_form 0) out out
+    pub row_from_short : length r < size → Replied (write_row_from F r (length out)) (Err (refusal_at bad_form 0)) out out
     unfolding write_row_from read_row_record
     row_from_short h = let k : length r < row_size F.columns = omega (arith, size_is) in replied_refused _ out bad_form 0 (rw (lt-ltb (length r) (row_size F.columns) k))
 
@@ -129,14 +120,11 @@ module _ {kind : ℕ} {f : Format} (o : Formed kind f) where
     abbrev named : Rec
     named = row_in F.columns r
 
-    pub taken_sizes : (length fs ≡ all_slots F.columns) × ((length vs ≡ all_slots F.columns) × ((length t ≡ all_texts F.columns) × (length r ≡ row_size F.columns)))
-    taken_sizes = rw (k.flags, k.values, k.chars) (flags_length named.numbers ∙ numbers_size F r, (values_length named.numbers ∙ numbers_size F r, (chars_size F r k.long, k.long)))
-
     module _ (out : List ℕ) {same : Bool} (u : same ≡ same_bytes (packed F.kind fs vs t) r) where
       same_is : same_bytes (row_bytes F named) r ≡ same
       same_is = sym (u ∙ rw (k.flags, k.values, k.chars))
 
-      pub row_no_record : same ≡ false → Replied (row_line_answer F.columns (named_row F r) (length out)) (R.Refused bad_form 0) out out
+      pub row_no_record : same ≡ false → Replied (row_line_answer F.columns (named_row F r) (length out)) (Err (refusal_at bad_form 0)) out out
       unfolding named_row
       row_no_record q = let z = same_is ∙ q in replied_refused _ out bad_form 0 (rw z)
 
@@ -148,8 +136,13 @@ module _ {kind : ℕ} {f : Format} (o : Formed kind f) where
           by_whole true = refl
           by_whole false = refl
 
-      pub row_record : same ≡ true → {to : List ℕ} {a : Outcome} {y : Reply} → y ≡ replied a f.width → Wrote (write_whole F.columns fs (slots_of fs vs) t (length out)) a out to → Replied (row_line_answer F.columns (named_row F r) (length out)) y out to
-      row_record q e w =
-          let n = named.numbers in
-          let wide : (ys : List ℕ) → write_whole F.columns (flags_of n) n named.chars (length out) ≡ ok ys → length ys ≡ f.width = λ ys p. row_size_lem F.columns o.fits n named.chars ys (length out) (numbers_size F r) (chars_size F r k.long) (held (whole F.columns (flags_of n)) bad_form 0 (write_line F.columns n named.chars (length out)) ys p).1 ∙ sym o.width in
-          rw e (replied_as _ _ _ out _ (whole_answer q) (wrote_replied (rw (k.flags, k.values, k.chars, slots_back n) at w) f.width wide))
+      -- it is written, or refused
+      module _ (q : same ≡ true) {to : List ℕ} where
+        pub row_record : Wrote (write_whole F.columns fs (slots_of fs vs) t (length out)) (Ok tt) out to → Replied (row_line_answer F.columns (named_row F r) (length out)) (Ok f.width) out to
+        row_record w =
+            let n = named.numbers in
+            let wide : (ys : List ℕ) → write_whole F.columns (flags_of n) n named.chars (length out) ≡ ok ys → length ys ≡ f.width = λ ys p. row_size_lem F.columns o.fits n named.chars ys (length out) (numbers_size F r) (chars_size F r k.long) (held (whole F.columns (flags_of n)) bad_form 0 (write_line F.columns n named.chars (length out)) ys p).1 ∙ sym o.width in
+            replied_as _ _ _ out _ (whole_answer q) (wrote_reply (rw (k.flags, k.values, k.chars, slots_back n) at w) f.width wide refl)
+
+        pub row_refused : (e : Refusal) → Wrote (write_whole F.columns fs (slots_of fs vs) t (length out)) (Err e) out to → Replied (row_line_answer F.columns (named_row F r) (length out)) (Err e) out to
+        row_refused e w = replied_as _ _ _ out _ (whole_answer q) (wrote_no_reply (rw (k.flags, k.values, k.chars, slots_back named.numbers) at w) e refl)

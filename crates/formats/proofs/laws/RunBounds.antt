@@ -1,4 +1,8 @@
 -- How large the numbers answered for lines by their first letter, and for runs of them, can be; two bytes hold every count.
+use Rattle.std.specs.Prelude.{Ok, Err}
+use Rattle.columns.specs.declared.Reason.{Reason}
+use Rattle.columns.specs.declared.Reason.TheVariants as R
+use Rattle.formats.specs.Refused.{refused_at}
 use Prim.Native.Nat.{ℕ, suc, ◌+◌, ◌*◌, ◌≤◌, ◌<◌}
 use mathlib.Core.Path.{◌≡◌, refl}
 use mathlib.Core.Bool.{Bool, true, false, not}
@@ -8,7 +12,7 @@ use native.Mathlib.Omega.{arith}
 use lib.Dec.{eqb, leb, ltb}
 use lib.ListN.{length, get_or}
 use borrow.Author.Tests.{lt-ltb, le-ltb, lt-leb, le-leb, ne_eqb}
-use Rattle.columns.specs.Answer.{pick, Answer, ok, refusal, is_ok, differs, wrong_length, too_short}
+use Rattle.columns.specs.Answer.{pick, Answer, ok, refusal, number_of, is_ok, differs, wrong_length, too_short}
 use Rattle.columns.specs.Column.{Rec, widths}
 use Rattle.columns.specs.Row.{Fits}
 use Rattle.columns.proofs.laws.Bounds.{column_of, pick_bound, barred_bound, read_bound}
@@ -17,7 +21,8 @@ use Rattle.formats.specs.Lines.{on_first, lines_of}
 use Rattle.formats.specs.BlockReader.{line_of, next_of}
 use Rattle.formats.specs.BlockWalk.{no_line}
 use Rattle.formats.specs.Format.{format_of}
-use Rattle.formats.specs.Lettered.{LineKind, at_start, Lettered, kinds_of, format_for, named, leading, read_placed, read_as, read_lettered, into_record, read_lettered_into, kind_in, write_lettered}
+use Rattle.formats.specs.declared.lettered.LineKind.{LineKind}
+use Rattle.formats.specs.Lettered.{at_start, Lettered, kinds_of, format_for, named, leading, read_placed, read_as, read_lettered, into_record, read_lettered_into, kind_in, write_lettered}
 use Rattle.formats.specs.Run.{begun, events_of, on_line, rank_of, first_refused, counts_size, read_run}
 use Rattle.formats.specs.RunWalk.{told_as, told_at, first_told, next_told}
 use Rattle.formats.specs.RunWriting.{lettered_call}
@@ -28,8 +33,7 @@ use Rattle.formats.proofs.laws.CubeRecordBack.{size_of}
 use Rattle.formats.proofs.laws.BlockBounds.{lines_count, SmallLine, small_nothing, small_pick, end_low, after_low, record_column}
 use Rattle.formats.proofs.laws.RunWriting.{All, leading_all}
 use Rattle.formats.specs.declared.block_walk.BlockLine.{BlockLine}
-use Rattle.formats.specs.declared.run.Run.{Run}
-use Rattle.formats.specs.declared.run.Run.TheVariants as R
+use Rattle.formats.specs.Run.{Run}
 
 -- ---- two bytes hold every count: a line that begins with a letter has a byte besides its newline
 
@@ -110,7 +114,7 @@ into_as (ok k) l room h =
     (omega (arith, g.wide, row_into_bound (format_for k) g l room), omega (arith, g.bytes, row_into_size (format_for k) g l room))
 into_as (refusal n c) l room h = (omega (arith, h), omega arith)
 
-pick_small : (t : Bool) (n : ℕ) (x : Answer (List ℕ)) → (column_of x ≤ 256) × (size_of x ≤ 512) → (column_of (pick t (refusal n 0) x) ≤ 256) × (size_of (pick t (refusal n 0) x) ≤ 512)
+pick_small : (t : Bool) (n : Reason) (x : Answer (List ℕ)) → (column_of x ≤ 256) × (size_of x ≤ 512) → (column_of (pick t (refusal n 0) x) ≤ 256) × (size_of (pick t (refusal n 0) x) ≤ 512)
 pick_small true n x h = (omega arith, omega arith)
 pick_small false n x h = h
 
@@ -132,8 +136,8 @@ recorded_column L r at size = record_column (format_for (kind_in L r)) (format_f
 -- ---- a run
 
 abbrev pub SmallRun : Run → Type 0
-SmallRun (R.Read events) = events < 65536
-SmallRun (R.Refused number column line) = (column < 65536) × (line ≤ 65537)
+SmallRun (Ok events) = events < 65536
+SmallRun (Err e) = (e.column < 65536) × (e.line ≤ 65537)
 
 line_small : (n : ℕ) (a : Answer Rec) (x : Run) → column_of a ≤ 256 → n ≤ 65537 → SmallRun x → SmallRun (on_line n a x)
 line_small n (ok m) x h k s = s
@@ -149,41 +153,47 @@ pub run_small : (L : Lettered) → 0 < L.opener.letter → (b : List ℕ) (room 
 unfolding read_run
 run_small L g b room = by_room (ltb room (counts_size L))
   where
-    by_size : SmallRun (pick (ltb 65536 (length b)) (R.Refused wrong_length 0 0) (first_refused (kinds_of L) 1 at_start (lines_of b) (R.Read (events_of L (lines_of b)))))
+    by_size : SmallRun (pick (ltb 65536 (length b)) (refused_at wrong_length 0 0) (first_refused (kinds_of L) 1 at_start (lines_of b) (Ok (events_of L (lines_of b)))))
     by_size = elim (lt_or_le 65536 (length b)) [
       | inl p ↦ rw (lt-ltb 65536 (length b) p) (omega arith, omega arith)
-      | inr p ↦ rw (le-ltb 65536 (length b) p) (lines_small (kinds_of L) 1 at_start (lines_of b) (R.Read (events_of L (lines_of b))) (omega (arith, p, lines_count b)) (counts_hold L.opener.letter g b p))
+      | inr p ↦ rw (le-ltb 65536 (length b) p) (lines_small (kinds_of L) 1 at_start (lines_of b) (Ok (events_of L (lines_of b))) (omega (arith, p, lines_count b)) (counts_hold L.opener.letter g b p))
     ]
 
-    by_room : (t : Bool) → SmallRun (pick t (R.Refused too_short 0 0) (pick (ltb 65536 (length b)) (R.Refused wrong_length 0 0) (first_refused (kinds_of L) 1 at_start (lines_of b) (R.Read (events_of L (lines_of b))))))
+    by_room : (t : Bool) → SmallRun (pick t (refused_at too_short 0 0) (pick (ltb 65536 (length b)) (refused_at wrong_length 0 0) (first_refused (kinds_of L) 1 at_start (lines_of b) (Ok (events_of L (lines_of b))))))
     by_room true = (omega arith, omega arith)
     by_room false = by_size
 
 -- ---- a line of a walk
 
--- letters are bytes, and the refusals of a letter too
+-- the numbers of refusals are bytes
+number_low : (n : Reason) → number_of n < 256
+number_low R.Length = omega arith
+number_low R.Barred = omega arith
+number_low R.Type = omega arith
+number_low R.Separator = omega arith
+number_low R.Required = omega arith
+number_low R.Form = omega arith
+number_low R.Range = omega arith
+number_low R.Letter = omega arith
+number_low R.Check = omega arith
+number_low R.Wide = omega arith
+number_low R.Short = omega arith
+number_low R.Full = omega arith
+number_low R.Disorder = omega arith
+number_low R.OutOfPlace = omega arith
+number_low R.NotClosed = omega arith
+number_low R.LinksFull = omega arith
+number_low R.Dropped = omega arith
+
+-- and so are the letters of kinds
 module _ (L : Lettered) (low : All (λ (k : LineKind). k.letter < 256) (kinds_of L)) where
-  named_number : (ks : List LineKind) (b n c : ℕ) → named ks b ≡ refusal n c → n ≡ 3
-  unfolding named
-  named_number [] b n c e = cc
-  named_number (k ∷ ks) b n c e = by_letter (eqb b k.letter) (named_number ks b n c) e
-    where
-      by_letter : (t : Bool) → (named ks b ≡ refusal n c → n ≡ 3) → pick t (ok k) (named ks b) ≡ refusal n c → n ≡ 3
-      by_letter true g e = let z : ◌≡◌ {A = ℕ} 0 1 = cc in let y : ⊥ = omega arith in absurd y
-      by_letter false g e = g e
-
-  leading_number : (l : List ℕ) (n c : ℕ) → leading (kinds_of L) l ≡ refusal n c → n < 256
-  unfolding leading
-  leading_number [] n c e = let d : n ≡ 1 = cc in omega arith
-  leading_number (b ∷ l) n c e = omega (arith, named_number (kinds_of L) b n c e)
-
   event_small : (t : Bool) (n : ℕ) → n ≤ 65534 → pick t (n + 1) n < 65536
   event_small true n h = omega arith
   event_small false n h = omega arith
 
   told_small : (a : Answer LineKind) (l : List ℕ) → leading (kinds_of L) l ≡ a → (n e x : ℕ) → n ≤ 65534 → e ≤ 65536 → x ≤ 65536 → SmallLine (told_as L a n e x)
   told_small (ok k) l q n e x h i j = record { kind = leading_all (λ (k : LineKind). k.letter < 256) (kinds_of L) l k low q; number = event_small (eqb k.letter L.opener.letter) n h; end = i; next = j }
-  told_small (refusal m c) l q n e x h i j = small_nothing m (leading_number l m c q)
+  told_small (refusal m c) l q n e x h i j = small_nothing (number_of m) (number_low m)
 
   module _ (b : List ℕ) where
     at_small : length b ≤ 65536 → (at n : ℕ) → SmallLine (told_at L b at n)
@@ -198,13 +208,13 @@ module _ (L : Lettered) (low : All (λ (k : LineKind). k.letter < 256) (kinds_of
     pub first_small : SmallLine (first_told L b)
     unfolding first_told
     first_small = elim (lt_or_le 65536 (length b)) [
-      | inl p ↦ rw (lt-ltb 65536 (length b) p) (small_nothing wrong_length (omega arith))
+      | inl p ↦ rw (lt-ltb 65536 (length b) p) (small_nothing (number_of wrong_length) (omega arith))
       | inr p ↦ rw (le-ltb 65536 (length b) p) (at_small p 0 0)
     ]
 
     pub next_small : (x : BlockLine) → SmallLine (next_told L b x)
     unfolding next_told
     next_small x = elim (lt_or_le 65536 (length b)) [
-      | inl p ↦ rw (lt-ltb 65536 (length b) p) (small_nothing wrong_length (omega arith))
+      | inl p ↦ rw (lt-ltb 65536 (length b) p) (small_nothing (number_of wrong_length) (omega arith))
       | inr p ↦ rw (le-ltb 65536 (length b) p) (small_pick (is_ok (named (kinds_of L) x.kind)) _ _ (at_small p x.next x.number) (small_nothing no_line (omega arith)))
     ]

@@ -1,60 +1,49 @@
 -- Laws of walking a run: a line that was found, as the code comes to it; and a walk of a run that is read meets its lines, in order,
 -- and ends where the run ends.
-use Prim.Native.Nat.{ℕ, zero, suc, ◌+◌, ◌-◌, ◌≤◌, ◌<◌}
+use Rattle.std.specs.Prelude.{Ok}
+use Rattle.columns.specs.declared.Reason.{Reason}
+use Rattle.formats.specs.Refused.{refused_at}
+use Prim.Native.Nat.{ℕ, zero, suc, ◌+◌, ◌≤◌, ◌<◌}
 use mathlib.Core.Path.{◌≡◌, refl, sym, ap, ◌∙◌}
 use mathlib.Core.Bool.{Bool, true, false}
 use mathlib.Core.List.{List, [], ◌∷◌}
 use mathlib.Core.Logic.{inl, inr}
 use native.Mathlib.Omega.{arith}
 use lib.Dec.{eqb, ltb}
-use lib.ListN.{length, take, drop, get_or}
-use borrow.Author.Tests.{eq-eqb, ne_eqb, lt-ltb, le-ltb, ltb-false, lt-leb, le-leb}
-use Rattle.columns.specs.Answer.{pick, Answer, ok, refusal, wrong_length, too_short}
+use lib.ListN.{length, drop, get_or}
+use borrow.Author.Tests.{lt-ltb, le-ltb, ltb-false, lt-leb, le-leb}
+use Rattle.columns.specs.Answer.{pick, Answer, ok, refusal, number_of, wrong_length, too_short}
 use Rattle.columns.specs.Column.{Rec}
-use Rattle.formats.specs.Lines.{lines_of, line_end, end_from}
+use Rattle.formats.specs.Lines.{lines_of, line_end}
 use Rattle.formats.specs.BlockReader.{line_of, next_of}
 use Rattle.formats.specs.BlockWalk.{no_line, nothing}
-use Rattle.formats.specs.Lettered.{LineKind, at_start, Lettered, kinds_of, named, leading, read_as, kinds_at}
+use Rattle.formats.specs.declared.lettered.LineKind.{LineKind}
+use Rattle.formats.specs.Lettered.{at_start, Lettered, kinds_of, named, leading, read_as}
 use Rattle.formats.specs.Run.{on_line, rank_of, first_refused, counts_size, read_run, events_of}
 use Rattle.formats.specs.RunWalk.{event_after, told_as, told_at, first_told, next_told, met_of, WalkedFrom, ended, met}
 use Rattle.formats.proofs.laws.Lines.{lt_or_le, lines_none}
-use Rattle.formats.proofs.laws.BlockReader.{FoundAt, line_is, lines_past, next_range, after_line, past_newline_lem, past_end}
-use Rattle.formats.proofs.laws.Lettered.{kind_found, kind_none, end_place}
-use Rattle.formats.proofs.laws.Run.{opener_letter, leading_letter}
+use Rattle.formats.proofs.laws.BlockReader.{lines_past, next_range, after_line, past_newline_lem, past_end}
+use Rattle.formats.proofs.laws.Lettered.{kind_answer, lettered_by, named_find}
+use Rattle.formats.specs.Cube.{wrong_type}
+use Rattle.std.specs.Prelude.{Option, None, Some, find}
+use Rattle.formats.proofs.laws.Run.{leading_letter}
 use Rattle.formats.specs.declared.block_walk.BlockLine.{BlockLine}
-use Rattle.formats.specs.declared.run.Run.{Run}
-use Rattle.formats.specs.declared.run.Run.TheVariants as R
+use Rattle.formats.specs.Run.{Run}
 
--- ---- a line by its first letter, as the code comes to it
+-- ---- a number that was handed in has a kind's letter, or has not
 
-module _ (letters ranks afters : List ℕ) (first : ℕ) (L : Lettered) (same : kinds_at letters ranks afters first ≡ kinds_of L) where
-  module _ (l : List ℕ) (n e x : ℕ) where
-    pub told_refused : (m c : ℕ) → leading (kinds_at letters ranks afters first) l ≡ refusal m c → nothing m ≡ told_as L (leading (kinds_of L) l) n e x
-    told_refused m c q = let f : leading (kinds_of L) l ≡ refusal m c = rw same at q in rw f
+module _ (L : Lettered) (b : List ℕ) (low : length b ≤ 65536) (y : BlockLine) {o : Option LineKind} (f : o ≡ find (lettered_by y.kind) (kinds_of L)) where
+  pub next_known : {k : LineKind} → o ≡ Some k → told_at L b y.next y.number ≡ next_told L b y
+  unfolding next_told
+  next_known {k} e =
+      let q : named (kinds_of L) y.kind ≡ ok k = sym (named_find (kinds_of L) y.kind) ∙ ap kind_answer (sym f ∙ e) in
+      sym (rw (le-ltb 65536 (length b) low, q))
 
-    module _ (k : LineKind) (q : leading (kinds_at letters ranks afters first) l ≡ ok k) where
-      led : leading (kinds_of L) l ≡ ok k
-      led = rw same at q
-
-      pub told_opens : k.letter ≡ get_or letters 0 0 → record { kind = k.letter; number = n + 1; end = e; next = x } ≡ told_as L (leading (kinds_of L) l) n e x
-      told_opens h = rw (led, eq-eqb k.letter L.opener.letter (h ∙ opener_letter letters ranks afters first L same))
-
-      pub told_other : (k.letter ≡ get_or letters 0 0 → ⊥) → record { kind = k.letter; number = n; end = e; next = x } ≡ told_as L (leading (kinds_of L) l) n e x
-      told_other h = rw (led, ne_eqb k.letter L.opener.letter (λ z. h (z ∙ sym (opener_letter letters ranks afters first L same))))
-
-  -- a number that was handed in has a kind's letter, or has not
-  module _ (b : List ℕ) (low : length b ≤ 65536) (y : BlockLine) (i : ℕ) (p : i ≡ end_from y.kind letters 0) where
-    pub next_known : i < length letters → told_at L b y.next y.number ≡ next_told L b y
-    unfolding next_told
-    next_known h =
-        let f = rw same at (kind_found y.kind letters ranks afters first (omega (arith, p, end_place y.kind letters))) in
-        sym (rw (le-ltb 65536 (length b) low, f))
-
-    pub next_unknown : length letters ≤ i → nothing no_line ≡ next_told L b y
-    unfolding next_told
-    next_unknown h =
-        let f = rw same at (kind_none y.kind letters ranks afters first (omega (arith, p, end_place y.kind letters))) in
-        sym (rw (le-ltb 65536 (length b) low, f))
+  pub next_unknown : o ≡ None → nothing no_line ≡ next_told L b y
+  unfolding next_told
+  next_unknown e =
+      let q : named (kinds_of L) y.kind ≡ refusal wrong_type 1 = sym (named_find (kinds_of L) y.kind) ∙ ap kind_answer (sym f ∙ e) in
+      sym (rw (le-ltb 65536 (length b) low, q))
 
 -- ---- the line at a place
 
@@ -69,14 +58,10 @@ module _ (L : Lettered) (b : List ℕ) (at n : ℕ) where
     at_is : at < length b → told_at L b at n ≡ told_as L (leading (kinds_of L) (line_of b at)) n (line_end b at) (next_of b at)
     at_is h = rw (le-ltb 65534 n few, lt-leb (length b) at h)
 
-    pub at_found : {start end next : ℕ} → FoundAt b at start end next → told_as L (leading (kinds_of L) (take (end - start) (drop start b))) n end next ≡ told_at L b at n
-    at_found {start} {end} {next} f =
-        ap (λ (x : List ℕ). told_as L (leading (kinds_of L) x) n end next) (line_is f) ∙ sym (at_is f.inside ∙ rw (f.ends, f.after))
-
 -- ---- the calls
 
 module _ (L : Lettered) (b : List ℕ) where
-  pub first_long : 65536 < length b → nothing wrong_length ≡ first_told L b
+  pub first_long : 65536 < length b → nothing (number_of wrong_length) ≡ first_told L b
   unfolding first_told
   first_long h = sym (rw (lt-ltb 65536 (length b) h))
 
@@ -84,13 +69,13 @@ module _ (L : Lettered) (b : List ℕ) where
   unfolding first_told
   first_there h = sym (rw (le-ltb 65536 (length b) h))
 
-  pub next_long : (y : BlockLine) → 65536 < length b → nothing wrong_length ≡ next_told L b y
+  pub next_long : (y : BlockLine) → 65536 < length b → nothing (number_of wrong_length) ≡ next_told L b y
   unfolding next_told
   next_long y h = sym (rw (lt-ltb 65536 (length b) h))
 
 -- ---- a whole walk of a run that is read
 
-not_read : {n c l e : ℕ} → R.Refused n c l ≡ R.Read e → ⊥
+not_read : {n : Reason} {c l e : ℕ} → refused_at n c l ≡ Ok e → ⊥
 not_read q = let z : ◌≡◌ {A = ℕ} 0 1 = cc in omega arith
 
 -- a line that is read has a kind, which its first byte names
@@ -105,7 +90,7 @@ unfolding leading
 led_by L [] k e = let z : ◌≡◌ {A = ℕ} 0 1 = cc in let y : ⊥ = omega arith in absurd y
 led_by L (b ∷ l) k e = record { kind = k; is = e; names = ap (named (kinds_of L)) (leading_letter (kinds_of L) (b ∷ l) k e) ∙ e; some = omega arith }
 
-run_passed : (t : Bool) (n c l : ℕ) (x : Run) (e : ℕ) → pick t (R.Refused n c l) x ≡ R.Read e → (t ≡ false) × (x ≡ R.Read e)
+run_passed : (t : Bool) (n : Reason) (c l : ℕ) (x : Run) (e : ℕ) → pick t (refused_at n c l) x ≡ Ok e → (t ≡ false) × (x ≡ Ok e)
 run_passed true n c l x e q = absurd (not_read q)
 run_passed false n c l x e q = (refl, q)
 
@@ -158,18 +143,18 @@ module _ (L : Lettered) (b : List ℕ) (low : length b ≤ 65536) (x : Run) (e :
           let c : get_or here 0 0 ≡ d.kind.letter = sym (leading_letter ks here d.kind d.is) in
           rw (t, lines_past b at h, c) (met {x = y} {ms = met_of L event (lines_of (drop (next_of b at) b))} (rw (next_goes y d.kind d.names) w))
 
-  read_led : (at line before : ℕ) → at < length b → first_refused ks line before (lines_of (drop at b)) x ≡ R.Read e → Led L (line_of b at) × (first_refused ks (suc line) (rank_of (leading ks (line_of b at))) (lines_of (drop (next_of b at) b)) x ≡ R.Read e)
+  read_led : (at line before : ℕ) → at < length b → first_refused ks line before (lines_of (drop at b)) x ≡ Ok e → Led L (line_of b at) × (first_refused ks (suc line) (rank_of (leading ks (line_of b at))) (lines_of (drop (next_of b at) b)) x ≡ Ok e)
   unfolding first_refused
   read_led at line before h q = by_lead (leading ks (line_of b at)) refl (rw (lines_past b at h) at q)
     where
       rest : Answer LineKind → Run
       rest a = first_refused ks (suc line) (rank_of a) (lines_of (drop (next_of b at) b)) x
 
-      by_read : (k : LineKind) → leading ks (line_of b at) ≡ ok k → (o : Answer Rec) → on_line line o (rest (ok k)) ≡ R.Read e → Led L (line_of b at) × (rest (leading ks (line_of b at)) ≡ R.Read e)
+      by_read : (k : LineKind) → leading ks (line_of b at) ≡ ok k → (o : Answer Rec) → on_line line o (rest (ok k)) ≡ Ok e → Led L (line_of b at) × (rest (leading ks (line_of b at)) ≡ Ok e)
       by_read k p (ok m) q = (led_by L (line_of b at) k p, rw p q)
       by_read k p (refusal u v) q = absurd (not_read q)
 
-      by_lead : (a : Answer LineKind) → leading ks (line_of b at) ≡ a → on_line line (read_as a before (line_of b at)) (rest a) ≡ R.Read e → Led L (line_of b at) × (rest (leading ks (line_of b at)) ≡ R.Read e)
+      by_lead : (a : Answer LineKind) → leading ks (line_of b at) ≡ a → on_line line (read_as a before (line_of b at)) (rest a) ≡ Ok e → Led L (line_of b at) × (rest (leading ks (line_of b at)) ≡ Ok e)
       by_lead (ok k) p q = by_read k p (read_as (ok k) before (line_of b at)) q
       by_lead (refusal u v) p q = absurd (not_read q)
 
@@ -177,7 +162,7 @@ module _ (L : Lettered) (b : List ℕ) (low : length b ≤ 65536) (x : Run) (e :
   unfolding met_of
   walk_end at n i h = rw (at_end at n h, lines_none b at h) (ended {at = at} (omega arith))
 
-  walk_from : (fuel at line before n : ℕ) → at ≤ length b → Few at n → length b ≤ at + fuel → first_refused ks line before (lines_of (drop at b)) x ≡ R.Read e → WalkedFrom L b (told_at L b at n) at (met_of L n (lines_of (drop at b)))
+  walk_from : (fuel at line before n : ℕ) → at ≤ length b → Few at n → length b ≤ at + fuel → first_refused ks line before (lines_of (drop at b)) x ≡ Ok e → WalkedFrom L b (told_at L b at n) at (met_of L n (lines_of (drop at b)))
   walk_from zero at line before n i few m q = walk_end at n i (omega arith)
   walk_from (suc fuel) at line before n i few m q = elim (lt_or_le at (length b)) [
     | inl h ↦
@@ -188,10 +173,10 @@ module _ (L : Lettered) (b : List ℕ) (low : length b ≤ 65536) (x : Run) (e :
   ]
 
 -- of a run that is read, the walk meets its lines, in order, each with its letter and the number of its event, and then there is none
-pub run_walked : (L : Lettered) (b : List ℕ) (room e : ℕ) → read_run L b room ≡ R.Read e → WalkedFrom L b (first_told L b) 0 (met_of L 0 (lines_of b))
+pub run_walked : (L : Lettered) (b : List ℕ) (room e : ℕ) → read_run L b room ≡ Ok e → WalkedFrom L b (first_told L b) 0 (met_of L 0 (lines_of b))
 unfolding read_run
 run_walked L b room e q =
     let p = run_passed (ltb room (counts_size L)) too_short 0 0 _ e q in
-    let r = run_passed (ltb 65536 (length b)) wrong_length 0 0 (first_refused (kinds_of L) 1 at_start (lines_of b) (R.Read (events_of L (lines_of b)))) e p.1 in
+    let r = run_passed (ltb 65536 (length b)) wrong_length 0 0 (first_refused (kinds_of L) 1 at_start (lines_of b) (Ok (events_of L (lines_of b)))) e p.1 in
     let low = ltb-false 65536 (length b) r.0 in
-    rw (← first_there L b low) (walk_from L b low (R.Read (events_of L (lines_of b))) e (length b) 0 1 at_start 0 (omega arith) (λ h. (omega arith, omega arith)) (omega arith) r.1)
+    rw (← first_there L b low) (walk_from L b low (Ok (events_of L (lines_of b))) e (length b) 0 1 at_start 0 (omega arith) (λ h. (omega arith, omega arith)) (omega arith) r.1)

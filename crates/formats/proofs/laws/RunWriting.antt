@@ -1,5 +1,6 @@
 -- What record calls wrote reads back as a run with those lines in that order, for any lines by their first letter whose columns begin
 -- with it (document 02, Wish 5).
+use Rattle.std.specs.Prelude.{Ok}
 use mathlib.Core.Path.{◌≡◌, refl, sym, ap, subst, ◌∙◌}
 use mathlib.Core.Bool.{Bool, true, false}
 use mathlib.Core.List.{List, [], ◌∷◌}
@@ -18,7 +19,8 @@ use Rattle.formats.specs.Lines.{lines_of}
 use Rattle.formats.specs.Row.{blank_filled, read_row, write_row, row_bytes, write_row_from}
 use Rattle.formats.specs.Format.{format_of}
 use Rattle.formats.specs.BlockWriting.{RecordCalls, ReadBack, no_lines, line, written}
-use Rattle.formats.specs.Lettered.{LineKind, at_start, Lettered, kinds_of, format_for, named, leading, read_placed, read_lettered_into, numbered, kind_in, record_format, write_lettered}
+use Rattle.formats.specs.declared.lettered.LineKind.{LineKind}
+use Rattle.formats.specs.Lettered.{at_start, Lettered, kinds_of, format_for, named, leading, read_placed, read_lettered_into, numbered, kind_in, record_format, write_lettered}
 use Rattle.formats.specs.Run.{events_of, first_refused, counts_size, read_run}
 use Rattle.formats.specs.RunWriting.{is_in_order, letters_in, first_bytes, WrittenRun}
 use Rattle.formats.proofs.laws.Format.{format_fits}
@@ -27,8 +29,7 @@ use Rattle.formats.proofs.laws.RowRecord.{row_into_read}
 use Rattle.formats.proofs.laws.RowRecordBack.{row_written, row_from_back, row_from_there}
 use Rattle.formats.proofs.laws.Lettered.{placed_row}
 use Rattle.formats.proofs.laws.BlockWriting.{back_lines, records_laid, laid_written, laid_length, laid_size, laid_before, laid_after}
-use Rattle.formats.specs.declared.run.Run.{Run}
-use Rattle.formats.specs.declared.run.Run.TheVariants as R
+use Rattle.formats.specs.Run.{Run}
 
 -- ---- a row whose first column is a mark begins with it
 
@@ -147,5 +148,5 @@ module _ (L : Lettered) (fine : All (OwnLetter L) (kinds_of L)) where
         records = q.back;
         run = λ t low room g.
             let n : length (written at end to) ≤ 65536 = omega (arith, ap length w, laid_length q.laid, low) in
-            rw (le-ltb room (counts_size L) g, le-ltb 65536 (length (written at end to)) n, d) (back_accepted 1 at_start (R.Read (events_of L ls)) q.back t);
+            rw (le-ltb room (counts_size L) g, le-ltb 65536 (length (written at end to)) n, d) (back_accepted 1 at_start (Ok (events_of L ls)) q.back t);
       }

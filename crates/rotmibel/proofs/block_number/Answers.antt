@@ -8,39 +8,34 @@ use native.Mathlib.Omega.{arith}
 use mathlib.Core.Path.{sym, ap, ◌∙◌}
 use Rattle.rotmibel.proofs.block_number.Goals as goal
 
-pub overflow_mul-used : goal.overflow_mul-used
-overflow_mul-used c =
+pub overflow_mul-counts : goal.overflow_mul-counts
+overflow_mul-counts c =
     let b = c.args.block.now in
-    let w = read_number (read_block (block_of c.args.kind) b) _ _ _ (sym c.read_block-outcome.ensures ∙ c.in-Read.is) (block_small (block_of c.args.kind) (format_fits c.args.kind) b) in
-    let u = w.used in
-    omega (arith, u)
+    let w = read_number (read_block (block_of c.args.kind) b) _ (sym c.read_block.ensures ∙ c.in-Ok.is) (block_small (block_of c.args.kind) (format_fits c.args.kind) b) in
+    omega (arith, w.used)
 
-pub overflow_add-comments : goal.overflow_add-comments
-overflow_add-comments c =
+pub overflow_add-counts : goal.overflow_add-counts
+overflow_add-counts c =
     let b = c.args.block.now in
-    let w = read_number (read_block (block_of c.args.kind) b) _ _ _ (sym c.read_block-outcome.ensures ∙ c.in-Read.is) (block_small (block_of c.args.kind) (format_fits c.args.kind) b) in
-    let u = w.used in
-    let k = w.comments in
-    omega (arith, u, k)
+    let w = read_number (read_block (block_of c.args.kind) b) _ (sym c.read_block.ensures ∙ c.in-Ok.is) (block_small (block_of c.args.kind) (format_fits c.args.kind) b) in
+    omega (arith, w.used, w.comments)
 
 pub parts_of-requires : goal.parts_of-requires
 parts_of-requires c =
     let b = c.args.block.now in
-    let w = read_number (read_block (block_of c.args.kind) b) _ _ _ (sym c.read_block-outcome.ensures ∙ c.in-Read.is) (block_small (block_of c.args.kind) (format_fits c.args.kind) b) in
-    let u = w.used in
-    let k = w.comments in
-    (w.rows, omega (arith, u, k))
+    let w = read_number (read_block (block_of c.args.kind) b) _ (sym c.read_block.ensures ∙ c.in-Ok.is) (block_small (block_of c.args.kind) (format_fits c.args.kind) b) in
+    (w.rows, omega (arith, w.used, w.comments))
 
-pub parts_of-requires-in-Refused : goal.parts_of-requires-in-Refused
-parts_of-requires-in-Refused c =
+pub parts_of-requires-in-Err : goal.parts_of-requires-in-Err
+parts_of-requires-in-Err c =
     let b = c.args.block.now in
-    let w = refused_number (read_block (block_of c.args.kind) b) _ _ _ (sym c.read_block-outcome.ensures ∙ c.in-Refused.is) (block_small (block_of c.args.kind) (format_fits c.args.kind) b) in
+    let w = refused_number (read_block (block_of c.args.kind) b) _ (sym c.read_block.ensures ∙ c.in-Err.is) (block_small (block_of c.args.kind) (format_fits c.args.kind) b) in
     (w.0, omega (arith, w.1))
 
-pub returns-in-Read : goal.returns-in-Read
-returns-in-Read c =
-    c.parts_of.ensures ∙ sym (ap block_answer (sym c.read_block-outcome.ensures ∙ c.in-Read.is))
+pub returns-in-Ok : goal.returns-in-Ok
+returns-in-Ok c =
+    c.parts_of.ensures ∙ sym (ap block_answer (sym c.read_block.ensures ∙ c.in-Ok.is))
 
-pub returns-in-Refused : goal.returns-in-Refused
-returns-in-Refused c =
-    c.parts_of-in-Refused.ensures ∙ sym (ap block_answer (sym c.read_block-outcome.ensures ∙ c.in-Refused.is))
+pub returns-in-Err : goal.returns-in-Err
+returns-in-Err c =
+    rw c.from.ensures at c.parts_of-in-Err.ensures ∙ sym (ap block_answer (sym c.read_block.ensures ∙ c.in-Err.is))

@@ -8,23 +8,22 @@ use lib.Dec.{eqb}
 use borrow.Author.Tests.{eq-eqb, ne_eqb}
 use Rattle.columns.specs.Answer.{pick, Answer, ok, refusal}
 use Rattle.columns.proofs.laws.Bounds.{column_of}
-use Rattle.formats.specs.declared.Reply.{Reply}
-use Rattle.formats.specs.Record.{reply_of, Replied}
+use Rattle.std.specs.Prelude.{Ok, Err}
+use Rattle.formats.specs.Record.{Reply, reply_of, Replied}
 use Rattle.formats.specs.BlockWriting.{from_place, RepliedFrom}
-use Rattle.formats.specs.declared.block.Block.{Block}
-use Rattle.formats.specs.declared.block.Block.TheVariants as B
+use Rattle.formats.specs.Block.{Block}
+use Rattle.formats.specs.declared.block.Counts.{Counts}
+use Rattle.formats.specs.declared.LineRefusal.{LineRefusal}
 use Rattle.formats.proofs.laws.BlockBounds.{Small, SmallRead, SmallLine, first_small, next_small}
 use Rattle.formats.specs.BlockWalk.{first_line, next_line}
 use Rattle.formats.specs.declared.block_walk.BlockLine.{BlockLine}
 use Rattle.formats.proofs.laws.CubeRecordBack.{size_of}
 use Rattle.rotmibel.specs.Answers.{number_in, IsSmall, Answered, place_in, HasLowColumn, AnsweredFrom, line_number, line_in, IsSmallLine, met_by, met_line, run_answer, AnsweredRun, met_card}
 use Rattle.formats.specs.Cards.{cards}
-use Rattle.formats.specs.Run.{RunRead}
+use Rattle.formats.specs.Run.{Run, RunRead}
 use Rattle.formats.specs.RunWalk.{first_told, next_told}
 use Rattle.formats.proofs.laws.RunBounds.{SmallRun}
 use Rattle.formats.proofs.laws.Cards.{card_walk_first, card_walk_next}
-use Rattle.formats.specs.declared.run.Run.{Run}
-use Rattle.formats.specs.declared.run.Run.TheVariants as U
 
 pub answered : {a : Answer (List ℕ)} {r : Reply} {from to : List ℕ} (n : ℕ) → n ≡ number_in r → Replied a r from to → Answered a n from to
 answered n e w = record { answer = e ∙ ap number_in w.answer; bytes = w.bytes }
@@ -51,11 +50,11 @@ low_from {at} {a} {r} {from} {to} w k = rw w.answer (by_answer a k)
 
 -- ---- the block's numbers fit their parts
 
-pub read_number : (x : Block) (p k u : ℕ) → x ≡ B.Read p k u → Small x → SmallRead p k u
-read_number x p k u e w = subst Small e w
+pub read_number : (x : Block) (c : Counts) → x ≡ Ok c → Small x → SmallRead c.rows c.comments c.used
+read_number x c e w = subst Small e w
 
-pub refused_number : (x : Block) (n c l : ℕ) → x ≡ B.Refused n c l → Small x → (c < 65536) × (l ≤ 65538)
-refused_number x n c l e w = subst Small e w
+pub refused_number : (x : Block) (r : LineRefusal) → x ≡ Err r → Small x → (r.column < 65536) × (r.line ≤ 65538)
+refused_number x r e w = subst Small e w
 
 pub line_small : (x y : BlockLine) → x ≡ y → SmallLine y → IsSmallLine x
 line_small x y e w = let s : SmallLine x = subst SmallLine (sym e) w in (s.number, (s.end, s.next))
@@ -83,11 +82,11 @@ card_line_small b before = met_small (first_told cards b) (next_told cards b) be
 
 -- ---- the numbers of a run of cards fit their parts
 
-pub run_read_number : (x : Run) (e : ℕ) → x ≡ U.Read e → SmallRun x → e < 65536
+pub run_read_number : (x : Run) (e : ℕ) → x ≡ Ok e → SmallRun x → e < 65536
 run_read_number x e q w = subst SmallRun q w
 
-pub run_refused_number : (x : Run) (n c l : ℕ) → x ≡ U.Refused n c l → SmallRun x → (c < 65536) × (l ≤ 65537)
-run_refused_number x n c l q w = subst SmallRun q w
+pub run_refused_number : (x : Run) (r : LineRefusal) → x ≡ Err r → SmallRun x → (r.column < 65536) × (r.line ≤ 65537)
+run_refused_number x r q w = subst SmallRun q w
 
 pub answered_run : {b : List ℕ} {x : Run} {from to : List ℕ} (n : ℕ) (r : Run) → RunRead cards b x from to → x ≡ r → n ≡ run_answer r → AnsweredRun b n from to
 answered_run n r w e q = record { answer = q ∙ ap run_answer (sym e ∙ w.answer); bytes = w.bytes }

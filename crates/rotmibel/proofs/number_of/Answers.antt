@@ -4,16 +4,16 @@ use Rattle.rotmibel.proofs.number_of.Goals as goal
 
 pub parts_of-requires : goal.parts_of-requires
 parts_of-requires c =
-    let h = subst IsSmall c.in-Done.is c.requires in (h.1, h.0)
+    let h = subst IsSmall c.in-Ok.is c.requires in (h.1, h.0)
 
-pub parts_of-requires-in-Refused : goal.parts_of-requires-in-Refused
-parts_of-requires-in-Refused c =
-    let h = subst IsSmall c.in-Refused.is c.requires in (h.1, h.0)
+pub parts_of-requires-in-Err : goal.parts_of-requires-in-Err
+parts_of-requires-in-Err c =
+    let h = subst IsSmall c.in-Err.is c.requires in (h.1, h.0)
 
-pub returns-in-Done : goal.returns-in-Done
-returns-in-Done c =
-    c.parts_of.ensures ∙ sym (ap number_in c.in-Done.is)
+pub returns-in-Ok : goal.returns-in-Ok
+returns-in-Ok c =
+    c.parts_of.ensures ∙ sym (ap number_in c.in-Ok.is)
 
-pub returns-in-Refused : goal.returns-in-Refused
-returns-in-Refused c =
-    c.parts_of-in-Refused.ensures ∙ sym (ap number_in c.in-Refused.is)
+pub returns-in-Err : goal.returns-in-Err
+returns-in-Err c =
+    rw c.from.ensures at c.parts_of-in-Err.ensures ∙ sym (ap number_in c.in-Err.is)

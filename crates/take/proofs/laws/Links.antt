@@ -10,28 +10,17 @@ use lib.Seq.{drop-cons, length-take-le}
 use Rattle.formats.specs.Link.{text_of, says_delete}
 use Rattle.catalogue.specs.declared.section.Section.{Section}
 use Rattle.catalogue.specs.Line.{link_line}
-use Rattle.catalogue.specs.Entries.{entries_of}
+use Rattle.catalogue.specs.Entries.{entries_of, Inside}
 use Rattle.catalogue.specs.Ordered.{Ordered}
 use Rattle.catalogue.specs.Room.{contents}
 use Rattle.catalogue.specs.Places.{links_in}
-use Rattle.catalogue.proofs.laws.step.Link.{line_cut}
 use Rattle.catalogue.proofs.laws.room.Places.{few, link_inside, link_entries}
-use Rattle.catalogue.proofs.laws.section.Rows.{entries_length, entry_part}
-use Rattle.take.specs.Text.{Put, Printable, row_lines}
+use Rattle.take.specs.Text.{row_lines}
 use Rattle.take.specs.Links.{shown}
-use Rattle.take.proofs.laws.Text.{put_more, put_as}
 
 -- ---- one entry
 
 module _ (e : List ℕ) (es : List (List ℕ)) where
-  shown_not : says_delete (text_of (link_line e)) ≡ true → shown (e ∷ es) ≡ shown es
-  unfolding shown
-  shown_not h = rw h
-
-  shown_line : says_delete (text_of (link_line e)) ≡ false → shown (e ∷ es) ≡ link_line e ∷ shown es
-  unfolding shown
-  shown_line h = rw h
-
   -- it is counted and printed by itself
   shown_more : (t : Bool) → says_delete (text_of (link_line e)) ≡ t
       → (length (shown (e ∷ es)) ≡ length (shown (e ∷ [])) + length (shown es)) × (row_lines (shown (e ∷ es)) ≡ row_lines (shown (e ∷ [])) ++ row_lines (shown es))
@@ -53,19 +42,19 @@ module _ (e : List ℕ) {end : ℕ} (p : end ≡ 1 + get_or e 0 0) where
   pub line_size : length e ≡ 256 → get_or e 0 0 < 256 → length (take (end - 1) (drop 1 e)) ≡ get_or e 0 0
   line_size n b = let k : end - 1 ≡ get_or e 0 0 = omega arith in rw k (length-take-le (get_or e 0 0) (drop 1 e) (simp length-drop (omega arith)))
 
-  -- what was said of it
-  pub line_says : {z t : Bool} → z ≡ says_delete (text_of (take (end - 1) (drop 1 e))) → z ≡ t → says_delete (text_of (link_line e)) ≡ t
-  line_says q r = ap (λ (x : List ℕ). says_delete (text_of x)) (sym (line_cut e p)) ∙ sym q ∙ r
+-- what was said of it
+pub line_says : (e : List ℕ) {l : List ℕ} {z t : Bool} → l ≡ link_line e → z ≡ says_delete (text_of l) → z ≡ t → says_delete (text_of (link_line e)) ≡ t
+line_says e p q r = ap (λ (x : List ℕ). says_delete (text_of x)) (sym p) ∙ sym q ∙ r
 
 -- ---- an entry printed
 
-pub link_shown : (a e : List ℕ) (at : ℕ) → says_delete (text_of (link_line e)) ≡ true → Put a at (row_lines (shown (e ∷ []))) a at
+pub link_shown : (a e : List ℕ) → says_delete (text_of (link_line e)) ≡ true → a ≡ a ++ row_lines (shown (e ∷ []))
 unfolding row_lines
-link_shown a e at h = rw (shown_none e h) (record { place = omega arith; bytes = sym (append-nil (take at a)) })
+link_shown a e h = rw (shown_none e h) (sym (append-nil a))
 
-pub link_put : (e : List ℕ) {a b c x : List ℕ} {at m n : ℕ} → x ≡ link_line e → says_delete (text_of (link_line e)) ≡ false → Put a at x b m → Put b m (10 ∷ []) c n → Put a at (row_lines (shown (e ∷ []))) c n
+pub link_put : (e a : List ℕ) {b c x : List ℕ} → x ≡ link_line e → says_delete (text_of (link_line e)) ≡ false → b ≡ a ++ x → c ≡ b ++ (10 ∷ []) → c ≡ a ++ row_lines (shown (e ∷ []))
 unfolding row_lines
-link_put e q h u v = put_as (ap (λ (y : List ℕ). y ++ (10 ∷ [])) q ∙ sym (rw (shown_one e h))) (put_more u v)
+link_put e a q h u v = rw (shown_one e h, v, u, q) (append_assoc a (link_line e) (10 ∷ []))
 
 -- ---- the entries of a section from the i-th on
 
@@ -89,16 +78,14 @@ module _ (xs : List (List ℕ)) (i : ℕ) where
   lines_end x h = rw (drop_of_length-le xs {i = i} h) (append-nil x)
 
 -- one turn: the entry is put behind what is put
-pub shown_turn : (of : Section) (s : List ℕ) (i : ℕ) (h : i < of.count) → of.size ≡ 256 → (from : ℕ) → from ≡ of.at + 2 + of.size * i → {a b : List ℕ} {to m : ℕ} (x : List ℕ)
-    → Put a to (row_lines (shown (take (from + 256 - from) (drop from s) ∷ []))) b m → take to a ++ row_lines (shown (drop i (entries_of of s))) ≡ x
-    → take m b ++ row_lines (shown (drop (i + 1) (entries_of of s))) ≡ x
-shown_turn of s i h w from at {a} {b} {to} x p e =
-    let q = put_as (ap (λ (y : List ℕ). row_lines (shown (y ∷ []))) (entry_part of s i h w at)) p in
-    ap (λ (y : List ℕ). y ++ row_lines (shown (drop (i + 1) (entries_of of s)))) q.bytes
-    ∙ append_assoc (take to a) (row_lines (shown (get_or (entries_of of s) i [] ∷ []))) (row_lines (shown (drop (i + 1) (entries_of of s))))
-    ∙ ap (λ (y : List ℕ). take to a ++ y) (sym (lines_next (entries_of of s) i (omega (arith, entries_length of s)))) ∙ e
+pub shown_turn : (xs : List (List ℕ)) (i : ℕ) → i < length xs → (a : List ℕ) {b y x : List ℕ} → y ≡ get_or xs i [] → b ≡ a ++ row_lines (shown (y ∷ []))
+    → a ++ row_lines (shown (drop i xs)) ≡ x → b ++ row_lines (shown (drop (i + 1) xs)) ≡ x
+shown_turn xs i h a k p e =
+    ap (λ (z : List ℕ). z ++ row_lines (shown (drop (i + 1) xs))) (p ∙ ap (λ (z : List ℕ). a ++ row_lines (shown (z ∷ []))) k)
+    ∙ append_assoc a (row_lines (shown (get_or xs i [] ∷ []))) (row_lines (shown (drop (i + 1) xs)))
+    ∙ ap (λ (z : List ℕ). a ++ z) (sym (lines_next xs i h)) ∙ e
 
 -- ---- the links of a room in order
 
-pub links_printable : (r : List ℕ) → Ordered r → (s : Section) → s ≡ links_in r → Printable s r × (s.size ≡ 256) × (256 * s.count ≤ 256 * 64) × (entries_of s r ≡ (contents r).links)
-links_printable r o s e = rw e (record { inside = link_inside r o; small = omega arith; few = omega (arith, (few r o).2) }, refl, omega (arith, (few r o).2), link_entries r o)
+pub links_printable : (r : List ℕ) → Ordered r → (s : Section) → s ≡ links_in r → Inside s r × (s.size ≡ 256) × (256 * s.count ≤ 256 * 64) × (entries_of s r ≡ (contents r).links)
+links_printable r o s e = rw e (link_inside r o, refl, omega (arith, (few r o).2), link_entries r o)

@@ -47,13 +47,6 @@ cut_cut x y =
           take-append-le 1024 (take 1024 x) y (omega arith) ∙ take-take 1024 1024 x (omega arith) ∙ sym (take-append-le 1024 x y (omega arith))
     ]
 
-pub cut_whole : (n : ℕ) (s : List ℕ) → n ≤ 1024 → take n s ≡ cut (take n s)
-cut_whole n s h = sym (cut_short (take n s) (omega (arith, length-take n s)))
-
-pub cut_part : (from n : ℕ) (s : List ℕ) → 1024 ≤ n → take (from + 1024 - from) s ≡ cut (take n s)
-unfolding cut
-cut_part from n s h = let e : from + 1024 - from ≡ 1024 = omega arith in ap (λ (k : ℕ). take k s) e ∙ sym (take-take 1024 n s h)
-
 -- ---- a line that grows
 
 grown_none : (s : Session) → length s.line ≤ 1024 → grown s [] ≡ s

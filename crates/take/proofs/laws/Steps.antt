@@ -1,185 +1,97 @@
 -- Laws of the code's steps: a line kept or answered, a chunk, and the input so far.
-use Prim.Native.Nat.{ℕ, ◌+◌, ◌-◌, ◌≤◌, ◌<◌}
-use mathlib.Core.Path.{◌≡◌, refl, sym, ◌∙◌, ap, ap₂, subst}
-use mathlib.Core.List.{List, [], ◌++◌, append-nil}
+use Prim.Native.Nat.{min, ℕ, ◌+◌, ◌-◌, ◌≤◌, ◌<◌}
+use mathlib.Core.Path.{◌≡◌, refl, sym, ◌∙◌, ap, ap₂}
+use mathlib.Core.List.{List, [], ◌∷◌, ◌++◌, append-nil}
 use native.Mathlib.Omega.{arith}
-use lib.ListN.{length, take, drop, length-append, length-take, take-append-drop, drop_of_length-le}
-use lib.Seq.{take-append-add, length-take-le, drop-drop}
+use lib.ListN.{length, take, drop, take-append-drop}
+use lib.Seq.{take-length, take-paste, paste, take-append-add, length-take-le, take_all}
 use Rattle.formats.specs.Lines.{line_end}
 use Rattle.catalogue.specs.Room.{call_of, room_after}
-use Rattle.take.specs.declared.session.Said.{Said}
-use Rattle.take.specs.declared.session.Progress.{Progress}
-use Rattle.take.specs.Text.{Put, answer_line}
-use Rattle.take.specs.Session.{cut, Session, ended, ended_said, grown, bytes}
-use Rattle.take.specs.Progress.{session_of, Sound, between, Answered, Stepped, Taken, Passed, Closed, Emptied}
-use Rattle.take.proofs.laws.Session.{bytes_append, cut_short, Grown, line_grown, Ended, line_ended, closed_none, closed_some}
+use Rattle.take.specs.Text.{answer_line}
+use Rattle.take.specs.Session.{cut, Session, ended, ended_said, grown, bytes, said}
+use Rattle.take.specs.Steps.{Stepped, Passed}
+use Rattle.catalogue.proofs.laws.assoc.Tri.{le, gt, le?}
+use Rattle.take.proofs.laws.Session.{bytes_append, Grown, line_grown, Ended, line_ended}
 
 -- ---- a part of a line, kept behind what there is of it
 
-module _ (line part : List ℕ) (len : ℕ) (size : length line ≡ 1024) (fits : len ≤ 1024) where
-  pub kept_whole : {line' : List ℕ} {r : ℕ} → length part ≤ 1024 - len → Put line len part line' r → (take r line' ≡ cut (take len line ++ part)) × (r ≤ 1024)
-  kept_whole h p =
-      let n : length (take len line) ≡ len = length-take-le len line (omega arith) in
-      (p.bytes ∙ sym (cut_short (take len line ++ part) (omega (arith, length-append (take len line) part))), omega (arith, p.place))
+-- what is cut at a length, or ends before it
+pub cut_at : (l : List ℕ) (m : ℕ) {n : ℕ} → n ≡ min (length l) m → take n l ≡ take m l
+cut_at l m {n} e =
+    elim (le? (length l) m) [
+      | le p ↦ take_all n l (omega (arith, e)) ∙ sym (take_all m l p)
+      | gt p ↦ let q : n ≡ m = omega (arith, e) in ap (λ (k : ℕ). take k l) q
+    ]
 
-  pub kept_part : {line' : List ℕ} {r : ℕ} → 1024 - len < length part → Put line len (take (1024 - len - 0) part) line' r → (take r line' ≡ cut (take len line ++ part)) × (r ≤ 1024)
-  unfolding cut
-  kept_part h p =
-      let n : length (take len line) ≡ len = length-take-le len line (omega arith) in
-      let e : length (take len line) + (1024 - len - 0) ≡ 1024 = omega arith in
-      let m : length (take (1024 - len - 0) part) ≡ 1024 - len - 0 = length-take-le (1024 - len - 0) part (omega arith) in (
-        p.bytes ∙ sym (take-append-add (take len line) part (1024 - len - 0)) ∙ ap (λ (k : ℕ). take k (take len line ++ part)) e,
-        omega (arith, p.place, m),
-      )
+pub kept_part : (line part : List ℕ) (len : ℕ) → length line ≡ 1024 → len ≤ 1024 → {line' part' : List ℕ} → part' ≡ take (1024 - len) part → line' ≡ paste line len part' (length part') → take (len + length part') line' ≡ cut (take len line ++ part)
+unfolding cut
+kept_part line part len size fits {line'} {part'} q p =
+    let n : length (take len line) ≡ len = length-take-le len line (omega arith) in
+    let e : length (take len line) + (1024 - len) ≡ 1024 = omega arith in
+    ap (take (len + length part')) p ∙ take-paste line len part' (length part') (omega arith) (omega arith) ∙ ap (λ (x : List ℕ). take len line ++ x) (take-length part' ∙ q)
+    ∙ sym (take-append-add (take len line) part (1024 - len)) ∙ ap (λ (k : ℕ). take k (take len line ++ part)) e
+
+-- ---- a line that came whole
+
+nothing : (l : List ℕ) → length l ≡ 0 → l ≡ []
+nothing [] h = refl
+nothing (x ∷ l) h = absurd (omega arith)
+
+pub whole : (s : Session) (l out : List ℕ) {l' room' out' : List ℕ} → length s.line ≡ 0 → l' ≡ cut l → room' ≡ room_after s.room l' → out' ≡ out ++ answer_line (s.number + 1) (call_of s.room l')
+    → (record { room = room'; line = s.line; number = s.number + 1 } ≡ ended (grown s l)) × (out' ≡ out ++ ended_said (grown s l))
+unfolding ended ended_said grown
+whole s l out {l'} h q r t =
+    let z : s.line ≡ [] = nothing s.line h in
+    let e : l' ≡ cut (s.line ++ l) = q ∙ ap (λ (x : List ℕ). cut (x ++ l)) (sym z) in (
+      ap₂ (λ (x y : List ℕ). record { room = x; line = y; number = s.number + 1 }) (r ∙ ap (room_after s.room) e) z,
+      t ∙ ap (λ (x : List ℕ). out ++ answer_line (s.number + 1) (call_of s.room x)) e,
+    )
 
 -- ---- one step in a chunk
 
-session_fits : {room line out : List ℕ} (p : Progress) → Sound room line out p → length (session_of room line p).line ≤ 1024
-session_fits {room} {line} p s = omega (arith, s.line_fits, length-take p.len line)
-
-module _ (room line out chunk : List ℕ) (p : Progress) (sound : Sound room line out p) (inside : p.from < length chunk)
-    (end : ℕ) (is : end ≡ line_end chunk p.from) (onward : p.from ≤ end) (within : end ≤ length chunk) where
-  pub kept : {line' : List ℕ} {k : ℕ} → end ≡ length chunk → length line' ≡ length line → k ≤ 1024
-      → take k line' ≡ cut (take p.len line ++ take (end - p.from) (drop p.from chunk))
-      → Stepped room line out chunk p room line' out (record { from = end; len = k; number = p.number; named = p.named; at = p.at; failed = p.failed })
+module _ (s : Session) (out rest : List ℕ) (end : ℕ) (is : end ≡ line_end rest 0) (within : end ≤ length rest) (fits : length s.line ≤ 1024) where
+  pub kept : {s' : Session} → 0 < length rest → end ≡ length rest → s' ≡ grown s (take end rest) → Stepped s out rest s' out end
   unfolding grown
-  kept {line'} {k} last size fits e =
-      let q : line_end chunk p.from ≡ p.from + (end - p.from) = sym is ∙ omega arith in
-      let g : Grown chunk (session_of room line p) p.from (end - p.from) = line_grown chunk (end - p.from) (session_of room line p) p.from (session_fits p sound) (omega arith) q in
+  kept inside last e =
+      let g : Grown rest s 0 end = line_grown rest end s 0 fits (omega arith) (sym is ∙ omega arith) in
       record {
-        sound = record {
-          ordered = sound.ordered;
-          named_are = sound.named_are;
-          line_size = size ∙ sound.line_size;
-          line_fits = fits;
-          out_size = sound.out_size;
-          out_fits = sound.out_fits;
-        };
         onward = omega arith;
         within = within;
-        session = ap (λ (l : List ℕ). record { room = room; line = l; number = p.number }) e ∙ sym g.session;
-        text = sym (append-nil (take p.at out)) ∙ ap (λ (x : List ℕ). take p.at out ++ x) (sym g.silent);
-        counted = omega arith;
+        session = e ∙ sym g.session;
+        text = sym (append-nil out) ∙ ap (λ (x : List ℕ). out ++ x) (sym g.silent);
+        counted = rw e (omega arith);
       }
 
-  pub answered : {room' line' out' : List ℕ} {s : Said} → (end ≡ length chunk → ⊥) → p.at + 63 ≤ 65536 → length line' ≡ length line → length out' ≡ length out
-      → Answered room out p.at (p.number + 1) (cut (take p.len line ++ between p.from end chunk)) room' out' s
-      → Stepped room line out chunk p room' line' out' (record { from = end + 1; len = 0; number = p.number + 1; named = s.named; at = s.at; failed = p.failed })
-  unfolding grown ended ended_said
-  answered {room'} {line'} {out'} {s} more space size osize a =
-      let g : Ended chunk (session_of room line p) p.from end = line_ended chunk (session_of room line p) p.from end (session_fits p sound) onward (omega arith) is in
+  pub answered : {s' : Session} {out' : List ℕ} → (end ≡ length rest → ⊥) → s' ≡ ended (grown s (take end rest)) → out' ≡ out ++ ended_said (grown s (take end rest)) → Stepped s out rest s' out' (end + 1)
+  unfolding grown ended
+  answered more e t =
+      let z : end - 0 ≡ end = omega arith in
+      let k : end + 1 - 0 ≡ end + 1 = omega arith in
+      let g : Ended rest s 0 end = line_ended rest s 0 end fits (omega arith) (omega arith) is in
       record {
-        sound = record {
-          ordered = a.ordered;
-          named_are = a.named_are;
-          line_size = size ∙ sound.line_size;
-          line_fits = omega arith;
-          out_size = osize ∙ sound.out_size;
-          out_fits = omega (arith, a.short);
-        };
         onward = omega arith;
         within = omega arith;
-        session = ap (λ (x : List ℕ). record { room = x; line = []; number = p.number + 1 }) a.taken ∙ sym g.session;
-        text = a.put.bytes ∙ ap (λ (x : List ℕ). take p.at out ++ x) (sym g.answer);
-        counted = omega arith;
+        session = e ∙ ap (λ (n : ℕ). ended (grown s (take n rest))) (sym z) ∙ sym g.session ∙ ap (λ (n : ℕ). bytes s (take n rest)) k;
+        text = t ∙ ap (λ (x : List ℕ). out ++ x) (ap (λ (n : ℕ). ended_said (grown s (take n rest))) (sym z) ∙ sym g.answer ∙ ap (λ (n : ℕ). said s (take n rest)) k);
+        counted = rw e (omega arith);
       }
-
-pub answered_as : {room out room' out' l m : List ℕ} {at number : ℕ} {next : Said} → l ≡ m → Answered room out at number l room' out' next → Answered room out at number m room' out' next
-answered_as {room} {out} {room'} {out'} {l} {m} {at} {number} {next} e a = subst (λ (x : List ℕ). Answered room out at number x room' out' next) e a
-
--- a line of which nothing was kept
-pub kept_none : (line part : List ℕ) (len : ℕ) → len ≡ 0 → cut part ≡ cut (take len line ++ part)
-kept_none line part len e = ap (λ (k : ℕ). cut (take k line ++ part)) (sym e)
 
 -- ---- a chunk
 
-module _ (room line : List ℕ) {p q : Progress} (e : Emptied p q) where
-  pub emptied_session : session_of room line q ≡ session_of room line p
-  emptied_session = ap₂ (λ (k n : ℕ). record { room = room; line = take k line; number = n }) e.len e.number
+pub chunk_turn : {s s' : Session} {out rest out' : List ℕ} {n : ℕ} → Stepped s out rest s' out' n → bytes s' (drop n rest) ≡ bytes s rest
+chunk_turn {s} {rest = rest} {n = n} t =
+    ap (λ (u : Session). bytes u (drop n rest)) t.session ∙ sym (bytes_append s (take n rest) (drop n rest)) ∙ ap (bytes s) (take-append-drop n rest)
 
-  pub emptied_sound : (out : List ℕ) → Sound room line out p → q.at ≤ 65536 → Sound room line out q
-  emptied_sound out s h =
-      record {
-        ordered = s.ordered;
-        named_are = e.named ∙ s.named_are;
-        line_size = s.line_size;
-        line_fits = omega (arith, e.len, s.line_fits);
-        out_size = s.out_size;
-        out_fits = h;
-      }
-
-  pub chunk_turn : (out chunk : List ℕ) {room' line' out' : List ℕ} {r : Progress} → Stepped room line out chunk q room' line' out' r
-      → bytes (session_of room' line' r) (drop r.from chunk) ≡ bytes (session_of room line p) (drop p.from chunk)
-  chunk_turn out chunk {room'} {line'} {out'} {r} s =
-      let f : q.from + (r.from - q.from) ≡ r.from = omega (arith, s.onward) in
-      let parts : drop q.from chunk ≡ between q.from r.from chunk ++ drop r.from chunk =
-      sym (take-append-drop (r.from - q.from) (drop q.from chunk))
-      ∙ ap (λ (x : List ℕ). between q.from r.from chunk ++ x) (drop-drop (r.from - q.from) q.from chunk ∙ ap (λ (k : ℕ). drop k chunk) f) in
-      ap (λ (u : Session). bytes u (drop r.from chunk)) s.session
-      ∙ sym (bytes_append (session_of room line q) (between q.from r.from chunk) (drop r.from chunk))
-      ∙ ap (bytes (session_of room line q)) (sym parts)
-      ∙ ap₂ (λ (u : Session) (k : ℕ). bytes u (drop k chunk)) emptied_session e.from
-
-pub chunk_end : (s : Session) (chunk : List ℕ) (from : ℕ) → length chunk ≤ from → bytes s (drop from chunk) ≡ s
+pub chunk_end : (s : Session) (rest : List ℕ) → length rest ≡ 0 → bytes s rest ≡ s
 unfolding bytes
-chunk_end s chunk from h = ap (bytes s) (drop_of_length-le chunk h)
-
--- a chunk is taken from its first byte
-pub restarted : {room line out : List ℕ} {p : Progress} → Sound room line out p → Sound room line out (record { from = 0; len = p.len; number = p.number; named = p.named; at = p.at; failed = p.failed })
-restarted s = record { ordered = s.ordered; named_are = s.named_are; line_size = s.line_size; line_fits = s.line_fits; out_size = s.out_size; out_fits = s.out_fits }
+chunk_end s rest h = ap (bytes s) (nothing rest h)
 
 -- ---- the input so far
 
-pub taken_none : (room line out : List ℕ) (p : Progress) → Sound room line out p → Taken room line p [] room line out p
+pub passed_none : (s : Session) → Passed s s
 unfolding bytes
-taken_none room line out p s = record { sound = s; session = refl }
+passed_none s = record { input = []; session = refl }
 
-pub taken_emptied : (room line out : List ℕ) {p q : Progress} → Emptied p q → q.at ≤ 65536 → Sound room line out p → Taken room line p [] room line out q
-unfolding bytes
-taken_emptied room line out e h s = record { sound = emptied_sound room line e out s h; session = emptied_session room line e }
-
-pub passed_none : (room line out : List ℕ) (p : Progress) → Sound room line out p → Passed room line p room line out p
-passed_none room line out p s = record { input = []; taken = taken_none room line out p s }
-
-pub passed_more : {a b room line out room' line' out' : List ℕ} {o p q : Progress} (input : List ℕ) → Passed a b o room line out p → Taken room line p input room' line' out' q → Passed a b o room' line' out' q
-passed_more {a} {b} {o = o} input s t =
-    record {
-      input = s.input ++ input;
-      taken = record {
-        sound = t.sound;
-        session = t.session ∙ ap (λ (u : Session). bytes u input) s.taken.session ∙ sym (bytes_append (session_of a b o) s.input input);
-      };
-    }
-
--- ---- the end of the input
-
-module _ (room line out : List ℕ) (p : Progress) (sound : Sound room line out p) where
-  pub end_none : p.len ≡ 0 → Closed room line out p room out p
-  end_none h =
-      let c = closed_none (session_of room line p) (omega (arith, length-take p.len line)) in
-      record {
-        sound = sound;
-        session = sym c.0;
-        text = sym (append-nil (take p.at out)) ∙ ap (λ (x : List ℕ). take p.at out ++ x) (sym c.1);
-      }
-
-  pub end_some : {room' out' : List ℕ} {s : Said} → (p.len ≡ 0 → ⊥) → p.at + 63 ≤ 65536 → length out' ≡ length out
-      → Answered room out p.at (p.number + 1) (take (p.len - 0) line) room' out' s
-      → Closed room line out p room' out' (record { from = p.from; len = 0; number = p.number + 1; named = s.named; at = s.at; failed = p.failed })
-  unfolding ended ended_said
-  end_some {room'} {out'} {s} h space osize a =
-      let e : p.len - 0 ≡ p.len = omega arith in
-      let n : length (take p.len line) ≡ p.len = length-take-le p.len line (omega (arith, sound.line_size, sound.line_fits)) in
-      let c = closed_some (session_of room line p) (λ (z : length (take p.len line) ≡ 0). h (sym n ∙ z)) in
-      record {
-        sound = record {
-          ordered = a.ordered;
-          named_are = a.named_are;
-          line_size = sound.line_size;
-          line_fits = omega arith;
-          out_size = osize ∙ sound.out_size;
-          out_fits = omega (arith, a.short);
-        };
-        session = ap (λ (x : List ℕ). record { room = x; line = []; number = p.number + 1 }) (a.taken ∙ ap (λ (k : ℕ). room_after room (take k line)) e) ∙ sym c.0;
-        text = a.put.bytes ∙ ap (λ (x : List ℕ). take p.at out ++ x) (ap (λ (k : ℕ). answer_line (p.number + 1) (call_of room (take k line))) e ∙ sym c.1);
-      }
+pub passed_more : {o s s' : Session} (input : List ℕ) → Passed o s → s' ≡ bytes s input → Passed o s'
+passed_more {o} input p e =
+    record { input = p.input ++ input; session = e ∙ ap (λ (u : Session). bytes u input) p.session ∙ sym (bytes_append o p.input input) }

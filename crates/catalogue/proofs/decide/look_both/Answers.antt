@@ -21,9 +21,13 @@ key_at-key-requires c =
     let n = (whole c.args.line.now (notice_ok c.args.line.now c.args.notice c.requires.1)).long in
     (omega arith, omega arith, untyped 31 (length c.args.line.now))
 
+pub invariant_of-look : goal.invariant_of-look
+invariant_of-look c =
+    record { inside = (held_open c.args.room.now c.requires.0 c.held_in-held.ensures).0 }
+
 pub look-in_held-requires : goal.look-in_held-requires
 look-in_held-requires c =
-    held_open c.args.room.now c.requires.0 c.held_in-held.ensures
+    (held_open c.args.room.now c.requires.0 c.held_in-held.ensures).1
 
 pub returns-then-skips : goal.returns-then-skips
 returns-then-skips c =
@@ -35,12 +39,16 @@ returns-then-skips c =
       in_deletions = inr (c.requires.1 ∙ ap notice_kind s.0, s.1, refl);
     }
 
+pub invariant_of-look-else-skips : goal.invariant_of-look-else-skips
+invariant_of-look-else-skips c =
+    record { inside = (deletion_open c.args.room.now c.requires.0 c.deletions_in-deletions.ensures).0 }
+
 pub look-in_deletions-requires : goal.look-in_deletions-requires
 look-in_deletions-requires c =
-    deletion_open c.args.room.now c.requires.0 c.deletions_in-deletions.ensures
+    (deletion_open c.args.room.now c.requires.0 c.deletions_in-deletions.ensures).1
 
-pub returns : goal.returns
-returns c =
+pub returns-else-skips : goal.returns-else-skips
+returns-else-skips c =
     let g = c.deletions_in-deletions.ensures in
     record {
       held_is = c.held_in-held.ensures;

@@ -1,5 +1,5 @@
 use mathlib.Core.Path.{◌≡◌}
-use Prim.Native.Nat.{◌≤◌, ◌-◌}
+use Prim.Native.Nat.{◌≤◌}
 use lib.ListN.{length, drop}
 use Rattle.catalogue.proofs.laws.section.Types.{Typing}
 use Rattle.catalogue.proofs.key.type_at.Given as goal
@@ -8,7 +8,3 @@ use Rattle.catalogue.proofs.key.type_at.Given as goal
 abbrev pub invariant-loop-i : goal.invariant-loop-i
 invariant-loop-i l =
     Typing (drop l.at l.s) l.bytes l.i × (16 ≤ length (drop l.at l.s)) × (length l.bytes ≡ 16)
-
-abbrev pub decreases-loop-i : goal.decreases-loop-i
-decreases-loop-i l =
-    16 - l.i

@@ -3,6 +3,7 @@ use Prim.Native.Nat.{ℕ, suc, ◌+◌, ◌-◌, ◌≤◌, ◌<◌}
 use mathlib.Core.Path.{◌≡◌, refl, sym, ◌∙◌, ap, ap₂}
 use mathlib.Core.Logic.{inl, inr}
 use mathlib.Core.Bool.{Bool, true, false}
+use Rattle.std.specs.Prelude.{is_err}
 use mathlib.Core.List.{List, [], ◌∷◌, ◌++◌, append_assoc}
 use native.Mathlib.Omega.{arith}
 use native.Mathlib.Numerals.{add-one}
@@ -11,7 +12,7 @@ use lib.ListN.{length, take, drop, get_or, length-append}
 use lib.Seq.{take_at, drop_at, drop-cons, drop-length}
 use borrow.Author.Tests.{ltb-false, leb-true, le-ltb, le-leb}
 use Rattle.columns.specs.Answer.{pick}
-use Rattle.catalogue.specs.declared.Call.{Call}
+use Rattle.catalogue.specs.Answers.{Call}
 use Rattle.catalogue.specs.declared.desk.Tally.{Tally}
 use Rattle.catalogue.specs.Section.{flat}
 use Rattle.catalogue.specs.Lists.{SameLines, Settled}
@@ -67,9 +68,9 @@ lines_all ls = lines_past [] 0 refl ls
 -- ---- how many are refused
 
 pub refusals_more : (room l : List ℕ) (ls : List (List ℕ)) (k : ℕ)
-    → k + refusals room (l ∷ ls) ≡ pick (leb (call_of room l).number 19) (suc k) k + refusals (room_after room l) ls
+    → k + refusals room (l ∷ ls) ≡ pick (is_err (call_of room l)) (suc k) k + refusals (room_after room l) ls
 unfolding refusals
-refusals_more room l ls k = go (leb (call_of room l).number 19)
+refusals_more room l ls k = go (is_err (call_of room l))
   where
     go : (t : Bool) → k + pick t (suc (refusals (room_after room l) ls)) (refusals (room_after room l) ls) ≡ pick t (suc k) k + refusals (room_after room l) ls
     go true = omega arith
@@ -80,8 +81,8 @@ pub refusals_idle : (room : List ℕ) → (Ordered room → ⊥) → (ls : List 
 unfolding refusals
 refusals_idle room out [] = refl
 refusals_idle room out (l ∷ ls) =
-    let h : (call_of room l).number ≤ 19 = elim (call_idle room out l) [ inl e ↦ omega arith | inr e ↦ omega arith ] in
-    rw (le-leb (call_of room l).number 19 h, room_idle room out l) (ap suc (refusals_idle room out ls))
+    let h : is_err (call_of room l) ≡ true = elim (call_idle room out l) [ inl e ↦ rw e | inr e ↦ rw e ] in
+    rw (h, room_idle room out l) (ap suc (refusals_idle room out ls))
 
 -- ---- a loop over the ends
 
@@ -104,7 +105,7 @@ module _ {before s es room : List ℕ} {start i refused : ℕ} (F : Feeding befo
 
   pub feeding_turns : i < length es → {end : ℕ} → end ≡ end_in (length s) start (get_or es i 0) → {t : Call} → t ≡ call_of room (take (end - start) (drop start s))
       → {after : List ℕ} → after ≡ room_after room (take (end - start) (drop start s)) → length after ≡ length room
-      → {more : ℕ} → more ≡ pick (leb t.number 19) (suc refused) refused
+      → {more : ℕ} → more ≡ pick (is_err t) (suc refused) refused
       → Feeding before s es after end (i + 1) more
   unfolding feed lines_from
   feeding_turns h {end} e {t} n {after} a w {more} m =
@@ -113,20 +114,20 @@ module _ {before s es room : List ℕ} {start i refused : ℕ} (F : Feeding befo
       record {
         inside = omega arith;
         passed = omega arith;
-        few = rw m (pick_by (λ (k : ℕ). k ≤ i + 1) (leb t.number 19) (suc refused) refused (λ t. omega arith) (λ t. omega arith));
+        few = rw m (pick_by (λ (k : ℕ). k ≤ i + 1) (is_err t) (suc refused) refused (λ t. omega arith) (λ t. omega arith));
         as_long = w ∙ F.as_long;
         room_left = rw a (rw ls at F.room_left);
         refused_left = rw (m, n, a, ← refusals_more) (rw ls at F.refused_left);
       }
 
-  pub feeding_ends : length es ≤ i → Fed before room (lines_at s es) (record { lines = i; refused = refused })
+  pub feeding_ends : length es ≤ i → Fed before room (lines_at s es) (record { lines = length es; refused = refused })
   unfolding feed lines_from refusals
   feeding_ends h =
       let n : i ≡ length es = omega (arith, F.passed) in
       let e : drop i es ≡ [] = rw n (drop-length es) in
       let r : room ≡ feed before (lines_at s es) = rw e at F.room_left in
       let k : refused ≡ refusals before (lines_at s es) = omega (arith, rw e at F.refused_left) in
-      let m : i ≡ length (lines_at s es) = n ∙ sym (lines_length s 0 es) in
+      let m : length es ≡ length (lines_at s es) = sym (lines_length s 0 es) in
       record { room_is = r; lines_are = m; refused_are = k; idle = λ out. (r ∙ feed_idle before out (lines_at s es), k ∙ refusals_idle before out (lines_at s es) ∙ sym m) }
 
 -- ---- two desks

@@ -12,7 +12,8 @@ use Rattle.columns.proofs.laws.Bytes.{same_is}
 use Rattle.catalogue.specs.declared.decide.Deed.{Deed}
 use Rattle.catalogue.specs.declared.decide.Deed.TheVariants.{Leave, Hold, Note, Wipe, Link}
 use Rattle.catalogue.specs.declared.decide.Notice.TheVariants.{Event, Delete}
-use Rattle.catalogue.specs.Answers.{replaced, repeated, outdated}
+use Rattle.std.specs.Prelude.{Ok}
+use Rattle.catalogue.specs.declared.Effect.TheVariants.{Replaced, Repeated, Outdated}
 use Rattle.catalogue.specs.Line.{event, delete, link, kind, Acceptable, version, key, deletion, deletion_version, link_entry, link_version}
 use Rattle.catalogue.specs.Taking.{covered, over_held, over_deleted, decide, over_link}
 use Rattle.catalogue.specs.Last.{deletion_for, held_for, link_for}
@@ -93,11 +94,11 @@ module _ (l : List ℕ) where
   unfolding over_held
   over_held_after d none = (refl, refl)
   over_held_after d (some x) =
-      pick_by (λ (e : Deed). (held_after e l (some x) ≡ joined event (some x) l) × (deletion_after e l d ≡ d)) (ltb (version l) (version x)) (Leave outdated) (pick (same_bytes l x) (Leave repeated) (Hold replaced))
+      pick_by (λ (e : Deed). (held_after e l (some x) ≡ joined event (some x) l) × (deletion_after e l d ≡ d)) (ltb (version l) (version x)) (Leave (Ok Outdated)) (pick (same_bytes l x) (Leave (Ok Repeated)) (Hold Replaced))
       (λ t. (sym (later_above event x l (ltb-true (version l) (version x) t)), refl))
       (λ t.
       let v : version x ≤ version l = ltb-false (version l) (version x) t in
-      pick_by (λ (e : Deed). (held_after e l (some x) ≡ joined event (some x) l) × (deletion_after e l d ≡ d)) (same_bytes l x) (Leave repeated) (Hold replaced)
+      pick_by (λ (e : Deed). (held_after e l (some x) ≡ joined event (some x) l) × (deletion_after e l d ≡ d)) (same_bytes l x) (Leave (Ok Repeated)) (Hold Replaced)
       (λ s. (sym (later_within event x l v ∙ ap some (same_is l x s)), refl)) (λ s. (sym (later_within event x l v), refl)))
 
   -- where the line is above the deletes
@@ -172,7 +173,7 @@ module _ (l : List ℕ) (e : Option (List ℕ)) where
   event_pair none o = let a = over_held_after l none (held_for e none) in (a.0 ∙ joined_above l e none tt, a.1)
   event_pair (some y) o =
       let v = own_version (key l) y o in
-      pick_by (λ (t : Deed). PairAfter l t e (some y) (joined event e l) (some y)) (leb (version l) (deletion_version (deletion y (version y)))) (Leave outdated) (over_held l (held_for e (some y)))
+      pick_by (λ (t : Deed). PairAfter l t e (some y) (joined event e l) (some y)) (leb (version l) (deletion_version (deletion y (version y)))) (Leave (Ok Outdated)) (over_held l (held_for e (some y)))
       (λ t. (joined_within l e y (omega (arith, v, leb-true (version l) (deletion_version (deletion y (version y))) t)), refl))
       (λ t.
       let a = over_held_after l (some (deletion y (version y))) (held_for e (some y)) in
@@ -183,7 +184,7 @@ module _ (l : List ℕ) (e : Option (List ℕ)) where
   delete_pair a none o = let b = over_deleted_after l none (held_for e none) in (b.0 ∙ held_twice l e none tt, b.1)
   delete_pair a (some y) o =
       let v = own_version (key l) y o in
-      pick_by (λ (t : Deed). PairAfter l t e (some y) e (joined delete (some y) l)) (leb (version l) (deletion_version (deletion y (version y)))) (Leave outdated) (over_deleted (version l) (held_for e (some y)))
+      pick_by (λ (t : Deed). PairAfter l t e (some y) e (joined delete (some y) l)) (leb (version l) (deletion_version (deletion y (version y)))) (Leave (Ok Outdated)) (over_deleted (version l) (held_for e (some y)))
       (λ t.
       let w : version l ≤ version y = omega (arith, v, leb-true (version l) (deletion_version (deletion y (version y))) t) in
       (joined_held l e y w, joined_deletion l a y o w))
@@ -211,10 +212,10 @@ link_after_lem l p none w = refl
 link_after_lem l p (some x) w =
     let a = entry_version l (link_whole l p) in
     let b = entry_version x (link_whole x w) in
-    pick_by (λ (e : Deed). link_after e l (some (link_entry x)) ≡ link_for (joined link (some x) l)) (ltb (link_version (link_entry l)) (link_version (link_entry x))) (Leave outdated)
-    (pick (same_bytes (link_entry l) (link_entry x)) (Leave repeated) (Link replaced))
+    pick_by (λ (e : Deed). link_after e l (some (link_entry x)) ≡ link_for (joined link (some x) l)) (ltb (link_version (link_entry l)) (link_version (link_entry x))) (Leave (Ok Outdated))
+    (pick (same_bytes (link_entry l) (link_entry x)) (Leave (Ok Repeated)) (Link Replaced))
     (λ t. sym (ap link_for (later_above link x l (omega (arith, ltb-true (link_version (link_entry l)) (link_version (link_entry x)) t)))))
     (λ t.
     let e : joined link (some x) l ≡ some l = later_within link x l (omega (arith, ltb-false (link_version (link_entry l)) (link_version (link_entry x)) t)) in
-    pick_by (λ (e : Deed). link_after e l (some (link_entry x)) ≡ link_for (joined link (some x) l)) (same_bytes (link_entry l) (link_entry x)) (Leave repeated) (Link replaced)
+    pick_by (λ (e : Deed). link_after e l (some (link_entry x)) ≡ link_for (joined link (some x) l)) (same_bytes (link_entry l) (link_entry x)) (Leave (Ok Repeated)) (Link Replaced)
     (λ s. ap some (sym (same_is (link_entry l) (link_entry x) s)) ∙ sym (ap link_for e)) (λ s. sym (ap link_for e)))

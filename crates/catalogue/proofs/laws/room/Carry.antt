@@ -1,4 +1,5 @@
 -- The moves that a deed makes, on a room in order.
+use Rattle.std.proofs.Common.{Result, Ok, Err}
 use Prim.Native.Nat.{ℕ, ◌+◌, ◌≤◌, ◌<◌}
 use mathlib.Core.Path.{◌≡◌, refl, sym, ◌∙◌, ap, subst}
 use mathlib.Core.List.{List, [], ◌∷◌, ◌++◌}
@@ -6,9 +7,9 @@ use mathlib.Core.Option.{some}
 use native.Mathlib.Omega.{arith}
 use lib.ListN.{length, drop, get_or}
 use Rattle.catalogue.specs.declared.section.Section.{Section}
-use Rattle.catalogue.specs.declared.section.Seek.{Seek}
-use Rattle.catalogue.specs.declared.section.Seek.TheVariants.{Found, Missing}
 use Rattle.catalogue.specs.declared.decide.Deed.{Deed}
+use Rattle.catalogue.specs.declared.Effect.{Effect}
+use Rattle.catalogue.specs.Answers.{Call}
 use Rattle.catalogue.specs.declared.decide.Deed.TheVariants.{Leave, Hold, Note, Wipe, Link}
 use Rattle.catalogue.specs.declared.decide.Findings.{Findings}
 use Rattle.catalogue.specs.Assoc.{put, remove}
@@ -40,11 +41,11 @@ unfolding room_size capacity
 room_capacity c = omega arith
 
 -- what putting an entry asks
-abbrev pub PutAsks : List ℕ → Section → ℕ → Seek → List ℕ → Type 0
+abbrev pub PutAsks : List ℕ → Section → ℕ → Result ℕ ℕ → List ℕ → Type 0
 PutAsks r of used s l = Inside of r × (end_of of ≤ used) × RoomFor s (used + length l) (length r) × (of.count < 65535) × (length l ≡ of.size) × IsPlaceOf s of.count
 
 -- the room x between the two moves of a Wipe: the deletion is put into it, which makes the room after the line
-pub record Between (r l : List ℕ) (v : ℕ) (s : Seek) (x : List ℕ) : Type 0 where
+pub record Between (r l : List ℕ) (v : ℕ) (s : Result ℕ ℕ) (x : List ℕ) : Type 0 where
   pub ordered : Ordered x
   pub able : Notable x l v s
   pub done_is : encode (with_deletions (contents x) (put deletion_key (deletion l v) (contents x).deletions)) ++ drop room_size x ≡ room_after r l
@@ -54,7 +55,7 @@ module _ {r : List ℕ} (o : Ordered r) where
   fits = good_fits (contents r) (view_good r o)
 
   -- a line put among the held ones
-  held_put : (l : List ℕ) → length l ≡ 80 → length (put key l (contents r).held) ≤ 512 → (s : Seek) → Sought key (key l) (contents r).held s
+  held_put : (l : List ℕ) → length l ≡ 80 → length (put key l (contents r).held) ≤ 512 → (s : Result ℕ ℕ) → Sought key (key l) (contents r).held s
       → (put_in r (held_in r) (end_of (links_in r)) s l ≡ encode (with_held (contents r) (put key l (contents r).held)) ++ drop room_size r) × RoomFor s (end_of (links_in r) + length l) (length r)
   unfolding encode
   held_put l hl few s h =
@@ -63,7 +64,7 @@ module _ {r : List ℕ} (o : Ordered r) where
       (ap (λ (x : List ℕ). put_in x (held_in r) (end_of (links_in r)) s l) (view r o) ∙ t.0, t.1)
 
   -- a deletion put among the deletions
-  module _ {l : List ℕ} {v : ℕ} {s : Seek} (N : Notable r l v s) where
+  module _ {l : List ℕ} {v : ℕ} {s : Result ℕ ℕ} (N : Notable r l v s) where
     noted : (put_in r (deletions_in r) (end_of (links_in r)) s (deletion l v) ≡ encode (with_deletions (contents r) (put deletion_key (deletion l v) (contents r).deletions)) ++ drop room_size r)
         × RoomFor s (end_of (links_in r) + length (deletion l v)) (length r)
     unfolding encode
@@ -89,7 +90,7 @@ module _ {r : List ℕ} (o : Ordered r) where
       note_put = rw (u, w, e) noted.0
 
   -- a held line taken out: the room of the lesser catalogue
-  module _ (k i : ℕ) (h : Sought key k (contents r).held (Found i)) where
+  module _ (k i : ℕ) (h : Sought key k (contents r).held (Ok i)) where
     lesser : Catalogue
     lesser = with_held (contents r) (remove key k (contents r).held)
 
@@ -119,16 +120,16 @@ module _ {r : List ℕ} (o : Ordered r) where
     fair : Fair (contents r) l e
     fair = subst (Fair (contents r) l) p (deed_fair (contents r) l)
 
-  pub left : (l : List ℕ) {n : ℕ} → deed_of (contents r) l ≡ Leave n → r ≡ room_after r l
+  pub left : (l : List ℕ) {n : Call} → deed_of (contents r) l ≡ Leave n → r ≡ room_after r l
   unfolding done
   left l {n} p = view r o ∙ done_room l (Leave n) p
 
   -- only a link is stored among the links
-  pub no_link : (l : List ℕ) → (kind l ≡ link → ⊥) → {n : ℕ} → deed_of (contents r) l ≡ Link n → ⊥
+  pub no_link : (l : List ℕ) → (kind l ≡ link → ⊥) → {n : Effect} → deed_of (contents r) l ≡ Link n → ⊥
   no_link l a {n} p = a (fair l (Link n) p).is_link_lem
 
   module _ {l : List ℕ} {f : Findings} (K : Known r l f) where
-    module _ {n : ℕ} (p : deed_of (contents r) l ≡ Hold n) where
+    module _ {n : Effect} (p : deed_of (contents r) l ≡ Hold n) where
       hold_put : (put_in r (held_in r) (end_of (links_in r)) f.in_held l ≡ room_after r l) × RoomFor f.in_held (end_of (links_in r) + length l) (length r)
       unfolding done
       hold_put =
@@ -154,12 +155,12 @@ module _ {r : List ℕ} (o : Ordered r) where
     deletes : (e : Deed) → deed_of (contents r) l ≡ e → (Plain e → ⊥) → Sought deletion_key (key l) (contents r).deletions f.in_deletions
     deletes e p n = searched r o l f K (λ (q : kind l ≡ event). by_held q f.in_held refl)
       where
-        by_held : kind l ≡ event → (s : Seek) → f.in_held ≡ s → IsFound s → ⊥
-        by_held q (Found i) g w =
-            let t : Sought key (key l) (contents r).held (Found i) = rw g at K.in_held in
+        by_held : kind l ≡ event → (s : Result ℕ ℕ) → f.in_held ≡ s → IsFound s → ⊥
+        by_held q (Ok i) g w =
+            let t : Sought key (key l) (contents r).held (Ok i) = rw g at K.in_held in
             let h : List ℕ = get_or (contents r).held i [] in
             n (subst Plain (sym (held_decides (contents r) l (view_good r o) h q (found_find key (key l) (contents r).held i t)) ∙ p) (over_held_plain l (some h)))
-        by_held q (Missing i) g w = w
+        by_held q (Err i) g w = w
 
     module _ {v : ℕ} (p : deed_of (contents r) l ≡ Note v) where
       pub note_able : Notable r l v f.in_deletions
@@ -172,14 +173,14 @@ module _ {r : List ℕ} (o : Ordered r) where
       note_room = done_room l (Note v) p
 
     module _ {v : ℕ} (p : deed_of (contents r) l ≡ Wipe v) where
-      pub wipe_found : {i : ℕ} → f.in_held ≡ Missing i → ⊥
+      pub wipe_found : {i : ℕ} → f.in_held ≡ Err i → ⊥
       wipe_found {i} e =
           let a = missing_find key (key l) (contents r).held (view_good r o).held_ascends i (rw e at K.in_held) in
           let b = (fair l (Wipe v) p).is_held in
           let z : ◌≡◌ {A = ℕ} 0 1 = cc in omega arith
 
-      module _ {i used : ℕ} (e : f.in_held ≡ Found i) (u : used ≡ end_of (links_in r)) where
-        found_in : Sought key (key l) (contents r).held (Found i)
+      module _ {i used : ℕ} (e : f.in_held ≡ Ok i) (u : used ≡ end_of (links_in r)) where
+        found_in : Sought key (key l) (contents r).held (Ok i)
         found_in = rw e at K.in_held
 
         pub wipe_asks : Inside f.held r × (end_of f.held ≤ used) × (used ≤ length r) × (f.held.count < 65536) × (i < f.held.count)

@@ -1,4 +1,5 @@
 -- What the code finds of a line's pair in a room in order, and that it decides what the definition does.
+use Rattle.std.proofs.Common.{Result, Ok, Err}
 use Prim.Native.Nat.{ℕ, ◌+◌, ◌≤◌}
 use mathlib.Core.Path.{◌≡◌, refl, sym, ◌∙◌, ap, subst}
 use mathlib.Core.Logic.{inl, inr}
@@ -9,8 +10,6 @@ use native.Mathlib.Omega.{arith}
 use lib.ListN.{length, drop, get_or, length-drop}
 use lib.Seq.{get_or-drop}
 use Rattle.catalogue.specs.declared.section.Section.{Section}
-use Rattle.catalogue.specs.declared.section.Seek.{Seek}
-use Rattle.catalogue.specs.declared.section.Seek.TheVariants.{Found, Missing}
 use Rattle.catalogue.specs.declared.decide.Notice.{Notice}
 use Rattle.catalogue.specs.declared.decide.Notice.TheVariants.{Event, Delete, Blank}
 use Rattle.catalogue.specs.declared.decide.Findings.{Findings}
@@ -62,9 +61,9 @@ unfolding deletion pair
 deletion_bytes l v h = sym (simp (first_two (drop 10 l) (simp length-drop (omega arith)), first_eight (drop 2 l) (simp length-drop (omega arith)), get_or-drop))
 
 -- a place that a search answers lies in the section
-pub sought_place : (f : List ℕ → ℕ) (k : ℕ) (xs : List (List ℕ)) (s : Seek) → Sought f k xs s → IsPlaceOf s (length xs)
-sought_place f k xs (Found i) h = h.1
-sought_place f k xs (Missing i) h = omega (arith, h.0, below_le f k xs)
+pub sought_place : (f : List ℕ → ℕ) (k : ℕ) (xs : List (List ℕ)) (s : Result ℕ ℕ) → Sought f k xs s → IsPlaceOf s (length xs)
+sought_place f k xs (Ok i) h = h.1
+sought_place f k xs (Err i) h = omega (arith, h.0, below_le f k xs)
 
 module _ (r : List ℕ) (o : Ordered r) where
   pub long_enough : (2 ≤ length r) × (end_of (held_in r) + 2 ≤ length r) × (end_of (deletions_in r) + 2 ≤ length r) × (end_of (links_in r) ≤ length r)
@@ -75,7 +74,7 @@ module _ (r : List ℕ) (o : Ordered r) where
     pub held_open : Inside s r × AscFrom (key_of_entry s) 0 (entries_of s r)
     held_open = rw e (held_inside r o, held_asc r o)
 
-    pub held_sought : {k j : ℕ} → k ≡ j → (x : Seek) → Sought (key_of_entry s) k (entries_of s r) x → Sought key j (contents r).held x
+    pub held_sought : {k j : ℕ} → k ≡ j → (x : Result ℕ ℕ) → Sought (key_of_entry s) k (entries_of s r) x → Sought key j (contents r).held x
     held_sought {k} {j} f x h =
         sought_as (key_of_entry s) key k j (entries_of s r) (contents r).held x (ap key_of_entry e ∙ held_key_lem r) f (ap (λ (y : Section). entries_of y r) e ∙ held_entries r o) h
 
@@ -83,7 +82,7 @@ module _ (r : List ℕ) (o : Ordered r) where
     pub deletion_open : Inside s r × AscFrom (key_of_entry s) 0 (entries_of s r)
     deletion_open = rw e (deletion_inside r o, deletion_asc r o)
 
-    pub deletion_sought : {k j : ℕ} → k ≡ j → (x : Seek) → Sought (key_of_entry s) k (entries_of s r) x → Sought deletion_key j (contents r).deletions x
+    pub deletion_sought : {k j : ℕ} → k ≡ j → (x : Result ℕ ℕ) → Sought (key_of_entry s) k (entries_of s r) x → Sought deletion_key j (contents r).deletions x
     deletion_sought {k} {j} f x h =
         sought_as (key_of_entry s) deletion_key k j (entries_of s r) (contents r).deletions x (ap key_of_entry e ∙ deletion_key_lem r) f (ap (λ (y : Section). entries_of y r) e ∙ deletion_entries r o) h
 
@@ -117,9 +116,9 @@ module _ (r : List ℕ) (o : Ordered r) where
     pub found_held : find key (key l) (contents r).held ≡ entry_of (entries_of f.held r) f.in_held
     found_held = sought_find key (key l) (contents r).held (view_good r o).held_ascends f.in_held K.in_held ∙ ap (λ (xs : List (List ℕ)). entry_of xs f.in_held) (sym held_rows)
 
-    some_held : (xs : List (List ℕ)) (s : Seek) → IsFound s → (h : List ℕ) × (entry_of xs s ≡ some h)
-    some_held xs (Found i) u = (get_or xs i [], refl)
-    some_held xs (Missing i) u = absurd u
+    some_held : (xs : List (List ℕ)) (s : Result ℕ ℕ) → IsFound s → (h : List ℕ) × (entry_of xs s ≡ some h)
+    some_held xs (Ok i) u = (get_or xs i [], refl)
+    some_held xs (Err i) u = absurd u
 
     -- what was found decides, searched or not
     pub known_decides : (n : Notice) → kind l ≡ notice_kind n

@@ -1,19 +1,17 @@
 -- A link in a room in order: its bytes, what is found and decided of its triple, and its entry stored.
-use Prim.Native.Nat.{ℕ, suc, ◌+◌, ◌*◌, ◌-◌, ◌≤◌, ◌<◌}
-use mathlib.Core.Path.{◌≡◌, sym, ◌∙◌, ap, ap₂, subst}
+use Rattle.std.proofs.Common.{Result}
+use Prim.Native.Nat.{ℕ, suc, ◌+◌, ◌*◌, ◌-◌, ◌≤◌}
+use mathlib.Core.Path.{◌≡◌, refl, sym, ◌∙◌, ap, ap₂, subst}
 use mathlib.Core.List.{List, [], ◌∷◌}
-use mathlib.Core.Bool.{Bool, true, false}
-use mathlib.Core.Option.{Option, some}
+use mathlib.Core.Bool.{true}
+use mathlib.Core.Option.{Option}
 use native.Mathlib.Omega.{arith}
 use lib.ListN.{length, drop, set, replicate, length-replicate, replicate-append-replicate}
-use borrow.Author.Tests.{lt-ltb, le-ltb}
 use lib.Seq.{paste, get_or-drop, take-length, drop_at}
 use Rattle.catalogue.specs.declared.section.Section.{Section}
-use Rattle.catalogue.specs.declared.section.Seek.{Seek}
 use Rattle.catalogue.specs.declared.decide.Deed.{Deed}
+use Rattle.catalogue.specs.declared.Effect.{Effect}
 use Rattle.catalogue.specs.declared.decide.Deed.TheVariants.{Leave, Hold, Note, Wipe, Link}
-use Rattle.columns.specs.Bytes.{same_bytes}
-use Rattle.catalogue.specs.Answers.{replaced, repeated, outdated}
 use Rattle.catalogue.specs.Assoc.{find, AscFrom}
 use Rattle.catalogue.specs.Line.{link, kind, triple_key, wide_version, link_entry, link_key, link_version}
 use Rattle.catalogue.specs.Section.{part}
@@ -41,6 +39,13 @@ NotLink (Note v) = Unit {0}
 NotLink (Wipe v) = Unit {0}
 NotLink (Link n) = ⊥
 
+pub not_link : (e : Deed) → ((n : Effect) → e ≡ Link n → ⊥) → NotLink e
+not_link (Leave n) h = tt
+not_link (Hold n) h = tt
+not_link (Note v) h = tt
+not_link (Wipe v) h = tt
+not_link (Link n) h = h n refl
+
 -- ---- an entry's bytes
 
 zeros_drop : (m n : ℕ) → drop m (replicate {A = ℕ} (m + n) 0) ≡ replicate n 0
@@ -59,28 +64,6 @@ pub version_at : (e : List ℕ) → two e 13 ≡ link_version e
 unfolding link_version wide_version
 version_at e = sym (ap₂ (λ (x y : ℕ). x * 256 + y) (get_or-drop 1 e 12 0) (get_or-drop 1 e 13 0))
 
--- ---- what a link decides, as the code compares it with the entry that has its triple
-
-module _ (e : List ℕ) {x y : List ℕ} (p : y ≡ x) {a b : ℕ} (q : a ≡ two e 13) (r : b ≡ two y 13) where
-  versions : (a ≡ link_version e) × (b ≡ link_version x)
-  versions = (q ∙ version_at e, r ∙ version_at y ∙ ap link_version p)
-
-  pub link_outdated : a < b → Leave outdated ≡ over_link e (some x)
-  unfolding over_link
-  link_outdated h = let v = versions in rw (lt-ltb (link_version e) (link_version x) (omega arith))
-
-  module _ (h : b ≤ a) {t : Bool} (s : t ≡ same_bytes e y) where
-    same_entry : t ≡ same_bytes e x
-    same_entry = s ∙ ap (same_bytes e) p
-
-    pub link_repeated : t ≡ true → Leave repeated ≡ over_link e (some x)
-    unfolding over_link
-    link_repeated u = let v = versions in rw (le-ltb (link_version e) (link_version x) (omega arith), ← same_entry, u)
-
-    pub link_replaced : t ≡ false → Link replaced ≡ over_link e (some x)
-    unfolding over_link
-    link_replaced u = let v = versions in rw (le-ltb (link_version e) (link_version x) (omega arith), ← same_entry, u)
-
 -- ---- a room in order
 
 module _ {r : List ℕ} (o : Ordered r) where
@@ -97,14 +80,14 @@ module _ {r : List ℕ} (o : Ordered r) where
       unfolding key_of_entry
       line_key {x} p q = q ∙ ap (key_in true 11 3) p ∙ ap (λ (f : List ℕ → ℕ). f (link_entry l)) (link_key_lem r) ∙ entry_key l (link_whole l k)
 
-      pub link_sought : {n : ℕ} → n ≡ triple_key l → (x : Seek) → Sought (key_of_entry s) n (entries_of s r) x → Sought link_key (triple_key l) (contents r).links x
+      pub link_sought : {n : ℕ} → n ≡ triple_key l → (x : Result ℕ ℕ) → Sought (key_of_entry s) n (entries_of s r) x → Sought link_key (triple_key l) (contents r).links x
       link_sought {n} p x h = sought_as (key_of_entry s) link_key n (triple_key l) (entries_of s r) (contents r).links x (ap key_of_entry e ∙ link_key_lem r) p link_rows h
 
-      pub link_place : (x : Seek) → Sought link_key (triple_key l) (contents r).links x → IsPlaceOf x s.count
+      pub link_place : (x : Result ℕ ℕ) → Sought link_key (triple_key l) (contents r).links x → IsPlaceOf x s.count
       link_place x h = subst (IsPlaceOf x) (sym (ap (λ (y : Section). y.count) e ∙ link_count r o)) (sought_place link_key (triple_key l) (contents r).links x h)
 
       -- the code's decision is the definition's
-      pub link_decided : (x : Seek) → Sought link_key (triple_key l) (contents r).links x → {y : List ℕ} → y ≡ link_entry l → {d g : Deed} → d ≡ over_link y (entry_of (entries_of s r) x)
+      pub link_decided : (x : Result ℕ ℕ) → Sought link_key (triple_key l) (contents r).links x → {y : List ℕ} → y ≡ link_entry l → {d g : Deed} → d ≡ over_link y (entry_of (entries_of s r) x)
           → g ≡ limited_link s.count (entry_of (entries_of s r) x) d → g ≡ deed_of (contents r) l
       unfolding link_deed
       link_decided x h p q w =
@@ -116,7 +99,7 @@ module _ {r : List ℕ} (o : Ordered r) where
           ∙ sym (deed_link (contents r) l k ∙ ap (λ (o : Option (List ℕ)). limited_link (length (contents r).links) o (over_link (link_entry l) o)) f)
 
   -- an entry put among the links
-  module _ (l : List ℕ) (k : kind l ≡ link) (s : Seek) (h : Sought link_key (triple_key l) (contents r).links s) {n : ℕ} (p : deed_of (contents r) l ≡ Link n) where
+  module _ (l : List ℕ) (k : kind l ≡ link) (s : Result ℕ ℕ) (h : Sought link_key (triple_key l) (contents r).links s) {n : Effect} (p : deed_of (contents r) l ≡ Link n) where
     at_key : Sought link_key (link_key (link_entry l)) (contents r).links s
     at_key = rw (entry_key l (link_whole l k)) h
 

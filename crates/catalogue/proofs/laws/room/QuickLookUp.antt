@@ -11,16 +11,18 @@ use Rattle.columns.specs.Answer.{too_short, wrong_length}
 use Rattle.columns.proofs.laws.Word.{Bytes}
 use Rattle.catalogue.specs.declared.Searched.{Searched}
 use Rattle.catalogue.specs.declared.section.Section.{Section}
-use Rattle.catalogue.specs.Answers.{not_in_order, is_held}
+use Rattle.std.specs.Prelude.{Option, Some, None, Result, Ok, Err}
+use Rattle.columns.specs.declared.Reason.{Reason}
+use Rattle.catalogue.specs.Answers.{not_in_order}
 use Rattle.catalogue.specs.Line.{pair, key_of, key}
 use Rattle.catalogue.specs.Section.{number}
 use Rattle.catalogue.specs.Room.{room_size, contents}
 use Rattle.catalogue.specs.Ordered.{Ordered}
 use Rattle.catalogue.specs.Entries.{entries_of, key_of_entry, Inside}
 use Rattle.catalogue.specs.Places.{held_in}
-use Rattle.catalogue.specs.LookUp.{looked, look_up, looked_in}
-use Rattle.catalogue.specs.Halving.{middle, examine, searched, halving, key_at, halve_in, SameAt, binary_digits, Stopped}
-use Rattle.catalogue.specs.QuickLookUp.{held_count, quick_look_up, FewExamined, held_key, ReadsNothingElse, AllBytes, ShowsThePair, AsFullLookUp, Searchable}
+use Rattle.catalogue.specs.LookUp.{look_place, look_up, looked_in}
+use Rattle.catalogue.specs.Halving.{middle, examine, halving, key_at, halve_in, SameAt, binary_digits, Stopped}
+use Rattle.catalogue.specs.QuickLookUp.{held_count, quick_look_up, place_in, examined_in, FewExamined, held_key, ReadsNothingElse, AllBytes, ShowsThePair, AsFullLookUp, Searchable}
 use Rattle.catalogue.proofs.laws.assoc.Tri.{le, gt, le?, eq, ne, eq?}
 use Rattle.catalogue.proofs.laws.section.Rows.{entry_is, entry_length}
 use Rattle.catalogue.proofs.laws.section.Types.{bytes_append, pair_of_key}
@@ -91,49 +93,49 @@ module _ {r : List ℕ} {first end l : ℕ} (w : Searchable r first end l) where
 module _ (r so id : List ℕ) where
   -- ---- a law for each answer, in the order of the checks
 
-  pub quick_short : length r < room_size → searched too_short 0 0 ≡ quick_look_up r so id
+  pub quick_short : length r < room_size → Err too_short ≡ quick_look_up r so id
   unfolding quick_look_up
   quick_short h = rw (lt-ltb (length r) room_size h)
 
   module _ (long : room_size ≤ length r) where
-    pub quick_disorder : 512 < held_count r → searched not_in_order 0 0 ≡ quick_look_up r so id
+    pub quick_disorder : 512 < held_count r → Err not_in_order ≡ quick_look_up r so id
     unfolding quick_look_up
     quick_disorder h = rw (le-ltb (length r) room_size long, lt-ltb 512 (held_count r) h)
 
     module _ (low : held_count r ≤ 512) where
-      pub quick_source : (length so ≡ 2 → ⊥) → searched wrong_length 0 0 ≡ quick_look_up r so id
+      pub quick_source : (length so ≡ 2 → ⊥) → Err wrong_length ≡ quick_look_up r so id
       unfolding quick_look_up
       quick_source n = rw (le-ltb (length r) room_size long, le-ltb 512 (held_count r) low, ne_eqb (length so) 2 n)
 
       module _ (two_long : length so ≡ 2) where
-        pub quick_identifier : (length id ≡ 8 → ⊥) → searched wrong_length 0 0 ≡ quick_look_up r so id
+        pub quick_identifier : (length id ≡ 8 → ⊥) → Err wrong_length ≡ quick_look_up r so id
         unfolding quick_look_up
         quick_identifier n = rw (le-ltb (length r) room_size long, le-ltb 512 (held_count r) low, eq-eqb (length so) 2 two_long, ne_eqb (length id) 8 n)
 
-        pub quick_pair : length id ≡ 8 → halve_in key (contents r).held (key_of (so ++ id) []) ≡ quick_look_up r so id
+        pub quick_pair : length id ≡ 8 → Ok (halve_in key (contents r).held (key_of (so ++ id) [])) ≡ quick_look_up r so id
         unfolding quick_look_up
         quick_pair e = rw (le-ltb (length r) room_size long, le-ltb 512 (held_count r) low, eq-eqb (length so) 2 two_long, eq-eqb (length id) 8 e)
 
         -- as the code comes to it, by the count and the key that it read
-        pub quick_searched : length id ≡ 8 → {x : Searched} {n k : ℕ} → n ≡ held_count r → k ≡ key_of (so ++ id) [] → x ≡ halving (held_key r) k n 0 n → x ≡ quick_look_up r so id
-        quick_searched e c q p = p ∙ ap₂ (λ (k n : ℕ). halving (held_key r) k n 0 n) q (c ∙ sym (held_number r)) ∙ quick_pair e
+        pub quick_searched : length id ≡ 8 → {x : Searched} {n k : ℕ} → n ≡ held_count r → k ≡ key_of (so ++ id) [] → x ≡ halving (held_key r) k n 0 n → Ok x ≡ quick_look_up r so id
+        quick_searched e c q p = ap Ok (p ∙ ap₂ (λ (k n : ℕ). halving (held_key r) k n 0 n) q (c ∙ sym (held_number r))) ∙ quick_pair e
 
   -- what holds of each answer holds
-  by_answer : (P : Searched → Type 0) → ((n : ℕ) → n ≤ 19 → P (searched n 0 0))
-      → (room_size ≤ length r → held_count r ≤ 512 → length so ≡ 2 → length id ≡ 8 → P (halve_in key (contents r).held (key_of (so ++ id) [])))
+  by_answer : (P : Result Searched Reason → Type 0) → ((n : Reason) → P (Err n))
+      → (room_size ≤ length r → held_count r ≤ 512 → length so ≡ 2 → length id ≡ 8 → P (Ok (halve_in key (contents r).held (key_of (so ++ id) []))))
       → P (quick_look_up r so id)
   by_answer P refused found =
       elim (le? room_size (length r)) [
-        | gt h ↦ subst P (quick_short h) (refused too_short (omega arith))
+        | gt h ↦ subst P (quick_short h) (refused too_short)
         | le h ↦
             elim (le? (held_count r) 512) [
-              | gt c ↦ subst P (quick_disorder h c) (refused not_in_order (omega arith))
+              | gt c ↦ subst P (quick_disorder h c) (refused not_in_order)
               | le c ↦
                   elim (eq? (length so) 2) [
-                    | ne s ↦ subst P (quick_source h c s) (refused wrong_length (omega arith))
+                    | ne s ↦ subst P (quick_source h c s) (refused wrong_length)
                     | eq s ↦
                         elim (eq? (length id) 8) [
-                          | ne i ↦ subst P (quick_identifier h c s i) (refused wrong_length (omega arith))
+                          | ne i ↦ subst P (quick_identifier h c s i) (refused wrong_length)
                           | eq i ↦ subst P (quick_pair h c s i) (found h c s i)
                         ]
                   ]
@@ -144,23 +146,23 @@ module _ (r so id : List ℕ) where
 
 pub few_examined : FewExamined
 few_examined r so id =
-    by_answer r so id (λ (x : Searched). x.examined ≤ binary_digits (held_count r)) (λ n h. zero-le)
+    by_answer r so id (λ (x : Result Searched Reason). examined_in x ≤ binary_digits (held_count r)) (λ n. zero-le)
     (λ h c s i.
     subst (λ (n : ℕ). (halve_in key (contents r).held (key_of (so ++ id) [])).examined ≤ binary_digits n) (held_number r)
     (halve_few (key_at key (contents r).held) (key_of (so ++ id) []) (length (contents r).held) (omega (arith, held_number r))))
 
 -- an answer, with the bound
-pub answered : (r so id : List ℕ) {x : Searched} → x ≡ quick_look_up r so id → (x ≡ quick_look_up r so id) × (x.examined ≤ binary_digits (held_count r))
-answered r so id e = (e, subst (λ (y : Searched). y.examined ≤ binary_digits (held_count r)) (sym e) (few_examined r so id))
+pub answered : (r so id : List ℕ) {x : Result Searched Reason} → x ≡ quick_look_up r so id → (x ≡ quick_look_up r so id) × (examined_in x ≤ binary_digits (held_count r))
+answered r so id e = (e, subst (λ (y : Result Searched Reason). examined_in y ≤ binary_digits (held_count r)) (sym e) (few_examined r so id))
 
 -- the place of an answer is that of a held line, or 0
-pub quick_low : (r so id : List ℕ) → (quick_look_up r so id).place ≤ 512
+pub quick_low : (r so id : List ℕ) → look_place (place_in (quick_look_up r so id)) ≤ 512
 quick_low r so id =
-    by_answer r so id (λ (x : Searched). x.place ≤ 512) (λ n h. zero-le)
+    by_answer r so id (λ (x : Result Searched Reason). look_place (place_in x) ≤ 512) (λ n. zero-le)
     (λ h c s i.
     elim (came (held_key r) (key_of (so ++ id) []) (length (contents r).held) 0 (length (contents r).held)) [
-      | met n f t a ↦ omega (arith, held_number r)
-      | missed n f ↦ omega arith
+      | met j n f t a ↦ rw n (omega (arith, held_number r))
+      | missed n ↦ rw n (omega arith)
     ])
 
 -- ---- nothing else is read
@@ -176,7 +178,10 @@ reads_nothing_else r o so id h l e s =
     ∙ ap (λ (m : ℕ). halving (held_key o) k m 0 m) n in
     rw (le-ltb (length r) room_size h, le-ltb (length o) room_size l, e, same)
 
--- ---- a 27 shows the pair
+-- ---- a place that is answered shows the pair
+
+place_same : {m j : ℕ} → ◌≡◌ {A = Result (Option ℕ) Reason} (Ok (Some m)) (Ok (Some j)) → m ≡ j
+place_same {m} {j} e = ap look_place e
 
 all_bytes : (s : List ℕ) → AllBytes s → Bytes s
 all_bytes [] h = tt
@@ -215,22 +220,22 @@ module _ (r : List ℕ) (long : room_size ≤ length r) (low : held_count r ≤ 
 
 pub shows_the_pair : ShowsThePair
 unfolding key
-shows_the_pair r so id b s i =
-    by_answer r so id (λ (x : Searched). x.number ≡ is_held → (x.place < held_count r) × (pair (get_or (contents r).held x.place []) ≡ so ++ id))
-    (λ n h e. absurd (omega arith))
+shows_the_pair r so id b s i j =
+    by_answer r so id (λ (x : Result Searched Reason). place_in x ≡ Ok (Some j) → (j < held_count r) × (pair (get_or (contents r).held j []) ≡ so ++ id))
+    (λ n e. let z : ◌≡◌ {A = ℕ} 0 1 = cc in absurd (omega arith))
     (λ h c p q e.
     let xs : List (List ℕ) = (contents r).held in
     let k : ℕ = key_of (so ++ id) [] in
-    let x : Searched = halve_in key xs k in
     elim (came (key_at key xs) k (length xs) 0 (length xs)) [
-      | met n f t a ↦
-          let l : x.place < held_count r = omega (arith, held_number r) in
-          let y : List ℕ = get_or xs x.place [] in (
+      | met m n f t a ↦
+          let u : m ≡ j = place_same (rw n at e) in
+          let l : j < held_count r = omega (arith, held_number r) in
+          let y : List ℕ = get_or xs j [] in (
             l,
-            pair_of_key (pair y) (so ++ id) (pair_length y (omega (arith, line_length r h c x.place l)) ∙ sym (length-append so id ∙ omega arith))
-                (pair_bytes y (line_bytes r h c x.place l (all_bytes r b))) (bytes_append so id (all_bytes so s) (all_bytes id i)) a,
+            pair_of_key (pair y) (so ++ id) (pair_length y (omega (arith, line_length r h c j l)) ∙ sym (length-append so id ∙ omega arith))
+                (pair_bytes y (line_bytes r h c j l (all_bytes r b))) (bytes_append so id (all_bytes so s) (all_bytes id i)) (rw u at a),
           )
-      | missed n f ↦ absurd (omega arith)
+      | missed n ↦ let z : ◌≡◌ {A = ℕ} 0 1 = (let w : ◌≡◌ {A = Result (Option ℕ) Reason} (Ok None) (Ok (Some j)) = rw n at e in cc) in absurd (omega arith)
     ])
 
 -- ---- in order it is the full look-up
@@ -241,14 +246,13 @@ module _ (r so id : List ℕ) (o : Ordered r) where
   low = (few r o).0
 
   -- the full look-up's answer is that of a search, so it is the answer of the look-up by halving
-  as_full : {x : Searched} → x ≡ quick_look_up r so id → looked x.number x.place ≡ look_up r so id
-      → looked (quick_look_up r so id).number (quick_look_up r so id).place ≡ look_up r so id
-  as_full e p = subst (λ (x : Searched). looked x.number x.place ≡ look_up r so id) e p
+  as_full : {x : Result Searched Reason} → x ≡ quick_look_up r so id → place_in x ≡ look_up r so id → place_in (quick_look_up r so id) ≡ look_up r so id
+  as_full e p = subst (λ (x : Result Searched Reason). place_in x ≡ look_up r so id) e p
 
   full_pair : length so ≡ 2 → length id ≡ 8
-      → looked (halve_in key (contents r).held (key_of (so ++ id) [])).number (halve_in key (contents r).held (key_of (so ++ id) [])).place ≡ look_up r so id
+      → Ok (halve_in key (contents r).held (key_of (so ++ id) [])).place ≡ look_up r so id
   unfolding looked_in
-  full_pair s i = halve_find key (key_of (so ++ id) []) (contents r).held (view_good r o).held_ascends ∙ look_pair r so id o s i refl
+  full_pair s i = ap Ok (halve_find key (key_of (so ++ id) []) (contents r).held (view_good r o).held_ascends) ∙ look_pair r so id o s i refl
 
 pub as_full_look_up : AsFullLookUp
 as_full_look_up r so id o =

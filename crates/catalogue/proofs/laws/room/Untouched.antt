@@ -7,10 +7,8 @@ use mathlib.Core.List.{List, ◌++◌}
 use native.Mathlib.Omega.{arith}
 use lib.ListN.{length, take, drop}
 use Rattle.columns.specs.Answer.{too_short}
-use Rattle.formats.specs.Cube.{read_line}
-use Rattle.catalogue.specs.declared.Call.{Call}
-use Rattle.catalogue.specs.Answers.{not_in_order}
-use Rattle.catalogue.specs.Line.{refused_at}
+use Rattle.columns.specs.declared.Reason.{Reason}
+use Rattle.catalogue.specs.Answers.{not_in_order, Call, declined_as}
 use Rattle.catalogue.specs.Catalogue.{Catalogue}
 use Rattle.catalogue.specs.Taking.{step}
 use Rattle.catalogue.specs.Room.{room_size, encode, contents, is_in_order, checked, call_of, room_after}
@@ -32,7 +30,7 @@ ordered? r = go (le? room_size (length r)) (is_in_order (take room_size r)) refl
 -- ---- a room that is not: it is refused, 11 or 13, and stays
 
 module _ (r : List ℕ) (out : Ordered r → ⊥) where
-  checked_idle : {A : Type 0} (f : ℕ → A) (a : A) → (checked r f a ≡ f too_short) ⊎ (checked r f a ≡ f not_in_order)
+  checked_idle : {A : Type 0} (f : Reason → A) (a : A) → (checked r f a ≡ f too_short) ⊎ (checked r f a ≡ f not_in_order)
   checked_idle f a = go (le? room_size (length r)) (is_in_order (take room_size r)) refl
     where
       go : Le? room_size (length r) → (t : Bool) → is_in_order (take room_size r) ≡ t → (checked r f a ≡ f too_short) ⊎ (checked r f a ≡ f not_in_order)
@@ -41,15 +39,10 @@ module _ (r : List ℕ) (out : Ordered r → ⊥) where
       go (le h) false e = inr (checked_disorder r f a h e)
 
   pub room_idle : (l : List ℕ) → room_after r l ≡ r
-  room_idle l = elim (checked_idle (λ (n : ℕ). r) (encode (step (contents (take room_size r)) l).after ++ drop room_size r)) [ inl e ↦ e | inr e ↦ e ]
+  room_idle l = elim (checked_idle (λ (n : Reason). r) (encode (step (contents (take room_size r)) l).after ++ drop room_size r)) [ inl e ↦ e | inr e ↦ e ]
 
-  pub call_idle : (l : List ℕ) → ((call_of r l).number ≡ too_short) ⊎ ((call_of r l).number ≡ not_in_order)
-  call_idle l =
-      elim
-      (checked_idle {A = Call} (λ (n : ℕ). record { number = n; column = 0 }) (record { number = (step (contents (take room_size r)) l).answer; column = refused_at (read_line l) })) [
-        | inl e ↦ inl (ap (λ (c : Call). c.number) e)
-        | inr e ↦ inr (ap (λ (c : Call). c.number) e)
-      ]
+  pub call_idle : (l : List ℕ) → (call_of r l ≡ declined_as too_short) ⊎ (call_of r l ≡ declined_as not_in_order)
+  call_idle l = checked_idle {A = Call} declined_as (step (contents (take room_size r)) l).answer
 
 -- ---- any room
 
@@ -57,7 +50,7 @@ pub untouched : Untouched
 untouched r l u =
     elim (ordered? r) [
       | inl o ↦
-          let n : ChangesNothing (step (contents r) l).answer = subst ChangesNothing (ap (λ (c : Call). c.number) (call_is r o l)) u in
+          let n : ChangesNothing (step (contents r) l).answer = subst ChangesNothing (call_is r o l) u in
           room_is r o l ∙ ap (λ (c : Catalogue). encode c ++ drop room_size r) (step_untouched (contents r) l n) ∙ sym (view r o)
       | inr out ↦ room_idle r out l
     ]

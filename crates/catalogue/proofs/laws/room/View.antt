@@ -6,11 +6,10 @@ use mathlib.Core.List.{List, ◌++◌}
 use lib.ListN.{length, take, drop, take-append-drop}
 use borrow.Author.Tests.{le-leb, lt-leb}
 use Rattle.columns.specs.Answer.{too_short}
-use Rattle.formats.specs.Cube.{read_line}
 use Rattle.columns.specs.Bytes.{same_bytes}
 use Rattle.columns.proofs.laws.Bytes.{same_is}
 use Rattle.catalogue.specs.Answers.{not_in_order}
-use Rattle.catalogue.specs.Line.{refused_at}
+use Rattle.columns.specs.declared.Reason.{Reason}
 use Rattle.catalogue.specs.Catalogue.{Catalogue}
 use Rattle.catalogue.specs.Taking.{step}
 use Rattle.catalogue.specs.Good.{good}
@@ -23,7 +22,7 @@ use Rattle.catalogue.proofs.laws.room.Encode.{encoded_contents, encoded_rest, en
 
 -- ---- the order of a call's checks
 
-module _ {A : Type 0} (r : List ℕ) (f : ℕ → A) (a : A) where
+module _ {A : Type 0} (r : List ℕ) (f : Reason → A) (a : A) where
   pub checked_short : length r < room_size → checked r f a ≡ f too_short
   unfolding checked
   checked_short h = rw (lt-leb room_size (length r) h)
@@ -60,7 +59,7 @@ module _ (r : List ℕ) (o : Ordered r) where
   view_good = subst Good (sym same_contents) front_good
 
   -- a call
-  pub call_is : (l : List ℕ) → call_of r l ≡ record { number = (step (contents r) l).answer; column = refused_at (read_line l) }
+  pub call_is : (l : List ℕ) → call_of r l ≡ (step (contents r) l).answer
   call_is l = rw (checked_fine, ← same_contents)
 
   pub room_is : (l : List ℕ) → room_after r l ≡ encode (step (contents r) l).after ++ drop room_size r

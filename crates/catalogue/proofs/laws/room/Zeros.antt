@@ -1,38 +1,18 @@
 -- Bytes that are all zero, one by one and to the end.
-use Prim.Native.Nat.{ℕ, zero, suc, ◌+◌, ◌-◌, ◌≤◌, ◌<◌}
+use Prim.Native.Nat.{ℕ, zero, suc, ◌-◌, ◌≤◌, ◌<◌}
 use mathlib.Core.Path.{◌≡◌, refl, sym, ◌∙◌, ap, ap₂}
 use mathlib.Core.Bool.{Bool, true, false, ◌&&◌}
 use mathlib.Core.List.{List, [], ◌∷◌, ◌++◌}
 use native.Mathlib.Omega.{arith}
-use borrow.Author.Tests.{eq-eqb, ne_eqb, eqb-true}
+use borrow.Author.Tests.{ne_eqb, eqb-true}
 use lib.Dec.{eqb}
 use lib.ListN.{length, take, drop, get_or, replicate, length-drop}
-use lib.Seq.{drop-cons, drop_at}
+use lib.Seq.{drop_at, take_all}
 use Rattle.columns.specs.Answer.{pick}
 use Rattle.columns.specs.Bytes.{same_bytes}
 use Rattle.columns.proofs.laws.Bytes.{same_is, same_self, same_cons}
 use Rattle.catalogue.specs.Zeros.{all_zero}
 use Rattle.catalogue.proofs.laws.assoc.Tests.{and_both}
-
--- from the i-th on
-module _ (s : List ℕ) (to : ℕ) (fits : to ≤ length s) (i : ℕ) where
-  zero_cons : i < to → take (to - i) (drop i s) ≡ get_or s i 0 ∷ take (to - (i + 1)) (drop (i + 1) s)
-  zero_cons h =
-      let e : to - i ≡ suc (to - (i + 1)) = omega arith in
-      let f : suc i ≡ i + 1 = omega arith in
-      rw (e, drop-cons s i 0 (omega arith), f)
-
-  pub zero_more : i < to → get_or s i 0 ≡ 0 → all_zero (take (to - i) (drop i s)) ≡ all_zero (take (to - (i + 1)) (drop (i + 1) s))
-  unfolding all_zero
-  zero_more h e = rw (zero_cons h, eq-eqb (get_or s i 0) 0 e)
-
-  pub zero_stop : i < to → (get_or s i 0 ≡ 0 → ⊥) → all_zero (take (to - i) (drop i s)) ≡ false
-  unfolding all_zero
-  zero_stop h e = rw (zero_cons h, ne_eqb (get_or s i 0) 0 e)
-
-  pub zero_end : to ≤ i → all_zero (take (to - i) (drop i s)) ≡ true
-  unfolding all_zero
-  zero_end h = let e : to - i ≡ 0 = omega arith in rw e
 
 -- ---- bytes after a zero are all zero where each is as the one before it
 
@@ -50,13 +30,22 @@ zero_shift zero l h = same_self []
 zero_shift (suc n) [] h = let y : ⊥ = omega arith in absurd y
 zero_shift (suc n) (x ∷ u) h = same_cons 0 x (take n (x ∷ u)) (take n u) ∙ shift_case x n u (eqb 0 x) refl (sym (eqb_flip x)) (λ e. rw e (zero_shift n u (omega arith))) ∙ rw (eqb_flip x)
 
-pub zero_run : (s : List ℕ) (from to : ℕ) → from < to → to ≤ length s → get_or s from 0 ≡ 0 → same_bytes (take (to - 1 - from) (drop from s)) (take (to - (from + 1)) (drop (from + 1) s)) ≡ all_zero (take (to - from) (drop from s))
-zero_run s from to h k e =
-    let n : to - 1 - from ≡ to - (from + 1) = omega arith in
-    let f : suc from ≡ from + 1 = omega arith in
-    let d : drop from s ≡ 0 ∷ drop (from + 1) s = rw (drop-cons s from 0 (omega arith), e, f) in
-    rw (n) (ap (λ (l : List ℕ). same_bytes (take (to - (from + 1)) l) (take (to - (from + 1)) (drop (from + 1) s))) d ∙ zero_shift (to - (from + 1)) (drop (from + 1) s) (omega (arith, length-drop (from + 1) s)))
-    ∙ sym (zero_more s to k from h e)
+pub zero_none : (s : List ℕ) → length s ≡ 0 → all_zero s ≡ true
+unfolding all_zero
+zero_none [] h = refl
+zero_none (x ∷ u) h = absurd (omega arith)
+
+pub zero_run : (s : List ℕ) → 0 < length s → get_or s 0 0 ≡ 0 → same_bytes (take (length s - 1) s) (take (length s - 1) (drop 1 s)) ≡ all_zero s
+unfolding all_zero
+zero_run [] h e = absurd (omega arith)
+zero_run (x ∷ u) h e =
+    let n : length (x ∷ u) - 1 ≡ length u = omega arith in
+    rw (n, e) (zero_shift (length u) u (omega arith) ∙ ap all_zero (take_all (length u) u (omega arith)))
+
+pub zero_stop : (s : List ℕ) → 0 < length s → (get_or s 0 0 ≡ 0 → ⊥) → all_zero s ≡ false
+unfolding all_zero
+zero_stop [] h e = absurd (omega arith)
+zero_stop (x ∷ u) h e = rw (ne_eqb x 0 e)
 
 zero_list : (l : List ℕ) → all_zero l ≡ true → l ≡ replicate (length l) 0
 unfolding all_zero

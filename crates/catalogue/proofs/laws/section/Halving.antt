@@ -1,6 +1,8 @@
 -- The rule of halving, turn by turn: what it comes to, how many entries it examines, and what it finds in ascending keys.
 use Prim.Native.Nat.{ℕ, zero, suc, ◌+◌, ◌-◌, ◌*◌, ◌^◌, ◌≤◌, ◌<◌, zero-le}
 use mathlib.Core.Path.{◌≡◌, refl, sym, ◌∙◌, ap, subst}
+use Rattle.std.specs.Prelude.{Option, Some, None, is_some}
+use mathlib.Core.Bool.{true, false≢true}
 use mathlib.Core.List.{List, [], ◌∷◌}
 use mathlib.Core.Option.{none}
 use native.Mathlib.Nat.{pow-suc}
@@ -9,10 +11,9 @@ use borrow.Author.Tests.{lt-ltb, le-ltb, eq-eqb, ne_eqb}
 use lib.Count.{leading_length}
 use lib.ListN.{length, get_or}
 use Rattle.catalogue.specs.declared.Searched.{Searched}
-use Rattle.catalogue.specs.Answers.{is_held, not_held}
 use Rattle.catalogue.specs.Assoc.{find, below, AscFrom}
-use Rattle.catalogue.specs.LookUp.{looked, looked_by}
-use Rattle.catalogue.specs.Halving.{middle, examine, looked_at, searched, searched_at, halving, key_at, halve_in, SameAt, binary_digits, Stopped}
+use Rattle.catalogue.specs.LookUp.{looked_by}
+use Rattle.catalogue.specs.Halving.{middle, examine, looked_at, searched, searched_at, halving, key_at, halve_in, SameAt, binary_digits, place_or, Stopped}
 use Rattle.catalogue.proofs.laws.assoc.Tri.{le, gt, le?, eq, ne, eq?}
 use Rattle.catalogue.proofs.laws.assoc.Below.{below_less, below_not}
 use Rattle.catalogue.proofs.laws.assoc.Place.{place_none, place_some}
@@ -20,17 +21,17 @@ use Rattle.catalogue.proofs.laws.section.Search.{below_low, below_high, asc_at}
 
 -- an entry of the stretch that has the key, or none
 pub data Came (at : ℕ → ℕ) (k first end : ℕ) (x : Searched) : Type 0 where
-  met : x.number ≡ is_held → first ≤ x.place → x.place < end → at x.place ≡ k → Came at k first end x
-  missed : x.number ≡ not_held → x.place ≡ 0 → Came at k first end x
+  met : (i : ℕ) → x.place ≡ Some i → first ≤ i → i < end → at i ≡ k → Came at k first end x
+  missed : x.place ≡ None → Came at k first end x
 
 -- one entry more was examined
 abbrev pub more : Searched → Searched
-more x = searched x.number x.place (1 + x.examined)
+more x = searched x.place (1 + x.examined)
 
 module _ (at : ℕ → ℕ) (k : ℕ) where
   -- ---- an entry more
 
-  met_at : (i : ℕ) → at i ≡ k → searched_at at k (i ∷ []) ≡ searched is_held i 1
+  met_at : (i : ℕ) → at i ≡ k → searched_at at k (i ∷ []) ≡ searched (Some i) 1
   unfolding looked_at
   met_at i q = rw (eq-eqb (at i) k q)
 
@@ -45,7 +46,7 @@ module _ (at : ℕ → ℕ) (k : ℕ) where
     unfolding examine
     examine_none h = rw (le-ltb first end h)
 
-    turn_empty : end ≤ first → halving at k (suc n) first end ≡ searched not_held 0 0
+    turn_empty : end ≤ first → halving at k (suc n) first end ≡ searched None 0
     unfolding looked_at
     turn_empty h = ap (searched_at at k) (examine_none h)
 
@@ -54,7 +55,7 @@ module _ (at : ℕ → ℕ) (k : ℕ) where
       unfolding examine
       examine_met q = rw (lt-ltb first end h, eq-eqb (at (middle first end)) k q)
 
-      turn_met : at (middle first end) ≡ k → halving at k (suc n) first end ≡ searched is_held (middle first end) 1
+      turn_met : at (middle first end) ≡ k → halving at k (suc n) first end ≡ searched (Some (middle first end)) 1
       turn_met q = ap (searched_at at k) (examine_met q) ∙ met_at (middle first end) q
 
       module _ (q : at (middle first end) ≡ k → ⊥) where
@@ -73,8 +74,8 @@ module _ (at : ℕ → ℕ) (k : ℕ) where
         turn_before l = ap (searched_at at k) (examine_before l) ∙ more_at (middle first end) (examine at k n first (middle first end)) q
 
     -- what holds in each case of a turn holds
-    by_turn : (P : Searched → Type 0) → (end ≤ first → P (searched not_held 0 0))
-        → (first < end → at (middle first end) ≡ k → P (searched is_held (middle first end) 1))
+    by_turn : (P : Searched → Type 0) → (end ≤ first → P (searched None 0))
+        → (first < end → at (middle first end) ≡ k → P (searched (Some (middle first end)) 1))
         → (first < end → (at (middle first end) ≡ k → ⊥) → at (middle first end) < k → P (more (halving at k n (middle first end + 1) end)))
         → (first < end → (at (middle first end) ≡ k → ⊥) → k ≤ at (middle first end) → P (more (halving at k n first (middle first end))))
         → P (halving at k (suc n) first end)
@@ -110,11 +111,11 @@ module _ (at : ℕ → ℕ) (k : ℕ) where
     again : halving at k (end - first) first end ≡ halving at k (suc (end - first)) first end
     again = turns_same (end - first) (suc (end - first)) first end (omega arith) (omega arith)
 
-    pub halve_empty : end ≤ first → halving at k (end - first) first end ≡ searched not_held 0 0
+    pub halve_empty : end ≤ first → halving at k (end - first) first end ≡ searched None 0
     halve_empty h = again ∙ turn_empty (end - first) first end h
 
     module _ (h : first < end) where
-      pub halve_met : at (middle first end) ≡ k → halving at k (end - first) first end ≡ searched is_held (middle first end) 1
+      pub halve_met : at (middle first end) ≡ k → halving at k (end - first) first end ≡ searched (Some (middle first end)) 1
       halve_met q = again ∙ turn_met (end - first) first end h q
 
       module _ (q : at (middle first end) ≡ k → ⊥) where
@@ -144,14 +145,14 @@ module _ (at : ℕ → ℕ) (k : ℕ) where
   -- ---- what it comes to
 
   wider : {first end a b : ℕ} {x : Searched} → first ≤ a → b ≤ end → Came at k a b x → Came at k first end (more x)
-  wider h i (met n p q e) = met n (omega arith) (omega arith) e
-  wider h i (missed n p) = missed n p
+  wider h i (met j n p q e) = met j n (omega arith) (omega arith) e
+  wider h i (missed n) = missed n
 
   pub came : (n first end : ℕ) → Came at k first end (halving at k n first end)
   unfolding examine looked_at
-  came zero first end = missed refl refl
+  came zero first end = missed refl
   came (suc n) first end =
-      by_turn n first end (λ (x : Searched). Came at k first end x) (λ l. missed refl refl) (λ l q. met refl (omega arith) (omega arith) q)
+      by_turn n first end (λ (x : Searched). Came at k first end x) (λ l. missed refl) (λ l q. met (middle first end) refl (omega arith) (omega arith) q)
       (λ l q b. wider (omega arith) (omega arith) (came n (middle first end + 1) end))
       (λ l q b. wider (omega arith) (omega arith) (came n first (middle first end)))
 
@@ -235,26 +236,25 @@ module _ (at : ℕ → ℕ) (k n : ℕ) (low : n ≤ 512) {r m l : ℕ} where
   whole : Stopped (halving at k (n - 0) 0 n) r m l → Stopped (halving at k n 0 n) r m l
   whole s = let e : n - 0 ≡ n = omega arith in subst (λ (t : ℕ). Stopped (halving at k t 0 n) r m l) e s
 
-  pub whole_held : Stopped (halving at k (n - 0) 0 n) r m l → r < 512 → searched is_held r (m - l) ≡ halving at k n 0 n
+  pub whole_held : Stopped (halving at k (n - 0) 0 n) r m l → r < 512 → searched (Some r) (m - l) ≡ halving at k n 0 n
   whole_held s h =
       let t = whole s in
       elim (came at k n 0 n) [
-        | met e p q a ↦
-            let f : r ≡ (halving at k n 0 n).place = t.place_is ∙ rw e in
+        | met i e p q a ↦
+            let f : r ≡ i = t.place_is ∙ ap (place_or 512) e in
             let g : m - l ≡ (halving at k n 0 n).examined = omega (arith, t.left_is) in
             rw (f, g, ← e)
-        | missed e p ↦ let f : r ≡ 512 = t.place_is ∙ rw e in absurd (omega arith)
+        | missed e ↦ let f : r ≡ 512 = t.place_is ∙ ap (place_or 512) e in absurd (omega arith)
       ]
 
-  pub whole_none : Stopped (halving at k (n - 0) 0 n) r m l → 512 ≤ r → searched not_held 0 (m - l) ≡ halving at k n 0 n
+  pub whole_none : Stopped (halving at k (n - 0) 0 n) r m l → 512 ≤ r → searched None (m - l) ≡ halving at k n 0 n
   whole_none s h =
       let t = whole s in
       elim (came at k n 0 n) [
-        | met e p q a ↦ let f : r ≡ (halving at k n 0 n).place = t.place_is ∙ rw e in absurd (omega arith)
-        | missed e p ↦
+        | met i e p q a ↦ let f : r ≡ i = t.place_is ∙ ap (place_or 512) e in absurd (omega arith)
+        | missed e ↦
             let g : m - l ≡ (halving at k n 0 n).examined = omega (arith, t.left_is) in
-            ap (λ (t : ℕ). searched t 0 (m - l)) (sym e) ∙ ap (λ (t : ℕ). searched (halving at k n 0 n).number t (m - l)) (sym p)
-            ∙ ap (searched (halving at k n 0 n).number (halving at k n 0 n).place) g
+            ap (λ (o : Option ℕ). searched o (m - l)) (sym e) ∙ ap (searched (halving at k n 0 n).place) g
       ]
 
 -- ---- ascending keys
@@ -271,10 +271,10 @@ module _ (key : List ℕ → ℕ) where
 module _ (key : List ℕ → ℕ) (k : ℕ) (xs : List (List ℕ)) (asc : AscFrom key 0 xs) where
   -- the key's place stays in the stretch, so that a key that is there is met
   meets : (n first end : ℕ) → end - first ≤ n → first ≤ below key k xs → below key k xs < end → end ≤ length xs → key_at key xs (below key k xs) ≡ k
-      → (halving (key_at key xs) k n first end).number ≡ is_held
+      → is_some (halving (key_at key xs) k n first end).place ≡ true
   meets zero first end h f t u e = absurd (omega arith)
   meets (suc n) first end h f t u e =
-      by_turn (key_at key xs) k n first end (λ (x : Searched). x.number ≡ is_held) (λ l. absurd (omega arith)) (λ l q. refl)
+      by_turn (key_at key xs) k n first end (λ (x : Searched). is_some x.place ≡ true) (λ l. absurd (omega arith)) (λ l q. refl)
       (λ l q b. meets n (middle first end + 1) end (omega arith) (omega (arith, below_high key xs 0 k (middle first end) asc (omega arith) b)) t u e)
       (λ l q b.
       let p : below key k xs ≡ middle first end → ⊥ = λ (r : below key k xs ≡ middle first end). q (sym (ap (key_at key xs) r) ∙ e) in
@@ -284,14 +284,14 @@ module _ (key : List ℕ → ℕ) (k : ℕ) (xs : List (List ℕ)) (asc : AscFro
       lower {a} {b} h n = elim (le? b a) [ le i ↦ absurd (n (omega arith)) | gt i ↦ i ]
 
   -- its answer and place are those of the key in the list
-  pub halve_find : looked (halve_in key xs k).number (halve_in key xs k).place ≡ looked_by (find key k xs) (below key k xs)
+  pub halve_find : (halve_in key xs k).place ≡ looked_by (find key k xs) (below key k xs)
   halve_find =
       elim (came (key_at key xs) k (length xs) 0 (length xs)) [
-        | met n p q e ↦
-            let b : below key k xs ≡ (halve_in key xs k).place = below_at key xs 0 k (halve_in key xs k).place asc q e in
+        | met i n p q e ↦
+            let b : below key k xs ≡ i = below_at key xs 0 k i asc q e in
             rw (n, place_some key [] xs k (omega arith) (ap (key_at key xs) b ∙ e), b)
-        | missed n p ↦
+        | missed n ↦
             let a : find key k xs ≡ none = place_none key [] xs 0 k asc (λ (h : below key k xs < length xs) (e : key (get_or xs (below key k xs) []) ≡ k).
-            let z : is_held ≡ not_held = sym (meets (length xs) 0 (length xs) (omega arith) zero-le h (omega arith) e) ∙ n in omega arith) in
-            rw (n, p, a)
+            false≢true (sym (ap is_some n) ∙ meets (length xs) 0 (length xs) (omega arith) zero-le h (omega arith) e)) in
+            rw (n, a)
       ]

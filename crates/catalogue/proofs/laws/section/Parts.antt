@@ -1,4 +1,5 @@
 -- An entry put into one section of many, or taken out of it: the room of the sections with that one changed.
+use Rattle.std.proofs.Common.{Result, Ok, Err}
 use Prim.Native.Nat.{ℕ, suc, ◌+◌, ◌*◌, ◌-◌, ◌≤◌, ◌<◌}
 use mathlib.Core.Path.{◌≡◌, refl, ◌∙◌, ap, ap₂}
 use mathlib.Core.List.{List, [], ◌∷◌, ◌++◌, append_assoc}
@@ -6,8 +7,6 @@ use native.Mathlib.Omega.{arith}
 use lib.ListN.{length, take, drop, set, replicate, length-append, length-set}
 use lib.Seq.{paste}
 use Rattle.catalogue.specs.declared.section.Section.{Section}
-use Rattle.catalogue.specs.declared.section.Seek.{Seek}
-use Rattle.catalogue.specs.declared.section.Seek.TheVariants.{Found, Missing}
 use Rattle.catalogue.specs.Assoc.{put, remove, AscFrom}
 use Rattle.catalogue.specs.Section.{Part, part, count, flat, laid, capacity}
 use Rattle.catalogue.specs.Room.{room_of}
@@ -102,10 +101,10 @@ module _ (S : ℕ) (front back : List Part) (w m : ℕ) (z : List ℕ) (xs : Lis
       omega (arith, laid_length (with S front back w m z ys) g, used_fits (with S front back w m z ys) g, capacity_with back w m front xs ys)
 
   -- an entry is put where the search says; where it is new there is room for it
-  pub put_section : (l : List ℕ) → length l ≡ w → length (put f l xs) ≤ m → (s : Seek) → Sought f (f l) xs s → {n : ℕ} → S ≤ n
+  pub put_section : (l : List ℕ) → length l ≡ w → length (put f l xs) ≤ m → (s : Result ℕ ℕ) → Sought f (f l) xs s → {n : ℕ} → S ≤ n
       → (put_in (room_of S (with S front back w m z xs) ++ z) of used s l ≡ room_of S (with S front back w m z (put f l xs)) ++ z) × RoomFor s (used + length l) n
   unfolding put_in
-  put_section l hl few (Missing i) s long =
+  put_section l hl few (Err i) s long =
       let p = put_missing f l xs i asc s in
       let ys : List (List ℕ) = take i xs ++ l ∷ drop i xs in
       let vs : Wide w ys = rw p.0 at (put_wide f w l xs hl ws) in
@@ -114,14 +113,14 @@ module _ (S : ℕ) (front back : List Part) (w m : ℕ) (z : List ℕ) (xs : Lis
         rw p.0 (insert_part S front back w m z xs ws of at used us i l hl p.1 vs within),
         omega (arith, with_length S front back w m z ys vs, with_length S front back w m z xs ws),
       )
-  put_section l hl few (Found i) s long =
+  put_section l hl few (Ok i) s long =
       let p : put f l xs ≡ set xs i l = put_found f l xs i s in (
         rw p (replace_part S front back w m z xs ws of at used us i l hl s.1 (rw p at (put_wide f w l xs hl ws))),
         tt,
       )
 
   -- the entry that was found is taken out
-  pub cut_section : (k i : ℕ) → Sought f k xs (Found i) → taken_out (room_of S (with S front back w m z xs) ++ z) of used i ≡ room_of S (with S front back w m z (remove f k xs)) ++ z
+  pub cut_section : (k i : ℕ) → Sought f k xs (Ok i) → taken_out (room_of S (with S front back w m z xs) ++ z) of used i ≡ room_of S (with S front back w m z (remove f k xs)) ++ z
   cut_section k i s =
       let p : remove f k xs ≡ take i xs ++ drop (suc i) xs = remove_found f k xs asc i s in
       let g : length (laid (with S front back w m z xs)) ≤ S = omega (arith, laid_length (with S front back w m z xs) fits, used_fits (with S front back w m z xs) fits) in

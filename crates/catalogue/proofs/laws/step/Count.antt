@@ -5,6 +5,8 @@ use mathlib.Core.Logic.{◌⊎◌, inl, inr}
 use mathlib.Core.List.{List}
 use mathlib.Core.Option.{Option, none}
 use native.Mathlib.Omega.{arith}
+use Rattle.catalogue.specs.declared.Effect.{Effect}
+use Rattle.catalogue.specs.Answers.{Call}
 use Rattle.catalogue.specs.declared.decide.Deed.{Deed}
 use Rattle.catalogue.specs.declared.decide.Deed.TheVariants.{Leave, Hold, Note, Wipe, Link}
 use Rattle.catalogue.specs.Assoc.{find}
@@ -35,12 +37,12 @@ after_named (Wipe v) l d h u p q = let z : ◌≡◌ {A = ℕ} 0 1 = cc in omega
 after_named (Link n) l d h u p q = elim u [ inl f ↦ f | inr f ↦ f p q ]
 
 module _ (c : Catalogue) (l : List ℕ) where
-  pub named_leave : (n : ℕ) → deed_of c l ≡ Leave n → named (step c l).after ≡ named c
+  pub named_leave : (n : Call) → deed_of c l ≡ Leave n → named (step c l).after ≡ named c
   unfolding step done
   named_leave n e = rw e
 
   -- links do not count
-  pub named_link : (n : ℕ) → deed_of c l ≡ Link n → named (step c l).after ≡ named c
+  pub named_link : (n : Effect) → deed_of c l ≡ Link n → named (step c l).after ≡ named c
   unfolding step done named
   named_link n e = rw e
 

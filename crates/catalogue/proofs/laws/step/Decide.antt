@@ -13,9 +13,10 @@ use Rattle.catalogue.specs.declared.decide.Deed.{Deed}
 use Rattle.catalogue.specs.declared.decide.Deed.TheVariants.{Leave, Hold, Note, Wipe, Link}
 use Rattle.catalogue.specs.declared.decide.Notice.{Notice}
 use Rattle.catalogue.specs.declared.decide.Notice.TheVariants.{Event, Delete, Blank}
-use Rattle.catalogue.specs.Answers.{replaced, repeated, outdated}
+use Rattle.std.specs.Prelude.{Ok, Err}
+use Rattle.catalogue.specs.declared.Effect.TheVariants.{Replaced, Repeated, Outdated}
 use Rattle.catalogue.specs.Assoc.{find}
-use Rattle.catalogue.specs.Line.{event, link, refused, kind, refused_by, version, key, deletion_key, deletion_version}
+use Rattle.catalogue.specs.Line.{event, link, refused, kind, refusal_in, version, key, deletion_key, deletion_version}
 use Rattle.catalogue.specs.Catalogue.{Catalogue, named}
 use Rattle.catalogue.specs.Taking.{covered, over_held, decide, limited, pair_deed, limited_link, link_deed, deed_of}
 use Rattle.catalogue.specs.Findings.{notice_kind}
@@ -35,8 +36,8 @@ pub over_held_plain : (l : List ℕ) (o : Option (List ℕ)) → Plain (over_hel
 unfolding over_held
 over_held_plain l none = tt
 over_held_plain l (some h) =
-    pick_by Plain (ltb (version l) (version h)) (Leave outdated) (pick (same_bytes l h) (Leave repeated) (Hold replaced)) (λ b. tt)
-    (λ b. pick_by Plain (same_bytes l h) (Leave repeated) (Hold replaced) (λ t. tt) (λ t. tt))
+    pick_by Plain (ltb (version l) (version h)) (Leave (Ok Outdated)) (pick (same_bytes l h) (Leave (Ok Repeated)) (Hold Replaced)) (λ b. tt)
+    (λ b. pick_by Plain (same_bytes l h) (Leave (Ok Repeated)) (Hold Replaced) (λ t. tt) (λ t. tt))
 
 -- a pair that is known, or finds room
 pub limited_open : (n : ℕ) (e : Deed) (d h : Option (List ℕ)) → (d ≡ none → h ≡ none → n < 512) → limited n d h e ≡ e
@@ -69,7 +70,7 @@ module _ (c : Catalogue) (l : List ℕ) where
   unfolding deed_of
   deed_link p = rw p
 
-  pub deed_refused : kind l ≡ refused → deed_of c l ≡ Leave (refused_by (read_line l))
+  pub deed_refused : kind l ≡ refused → deed_of c l ≡ Leave (Err (refusal_in (read_line l)))
   unfolding deed_of
   deed_refused p = rw p
 

@@ -15,7 +15,10 @@ use Rattle.catalogue.specs.declared.decide.Deed.{Deed}
 use Rattle.catalogue.specs.declared.decide.Deed.TheVariants.{Leave, Hold, Note, Wipe, Link}
 use Rattle.catalogue.specs.declared.decide.Notice.{Notice}
 use Rattle.catalogue.specs.declared.decide.Notice.TheVariants.{Event, Delete, Blank}
-use Rattle.catalogue.specs.Answers.{links_full, stored, replaced, repeated, outdated}
+use Rattle.std.specs.Prelude.{Ok}
+use Rattle.catalogue.specs.declared.Effect.{Effect}
+use Rattle.catalogue.specs.declared.Effect.TheVariants.{Stored, Replaced, Repeated, Outdated}
+use Rattle.catalogue.specs.Answers.{links_full, declined_as}
 use Rattle.catalogue.specs.Assoc.{find}
 use Rattle.catalogue.specs.Line.{Kind, event, delete, blank, link, refused, kind, Acceptable, version, key, deletion_key, deletion_version, triple_key, link_entry, link_key, link_version}
 use Rattle.catalogue.specs.Catalogue.{Catalogue, named}
@@ -31,8 +34,8 @@ abbrev pub Roomy : Catalogue → ℕ → Type 0
 Roomy c k = (named c < 512) ⊎ Names c k
 
 -- an E line is held: the answer is 20 or 21, and its version is above the deleted one
-pub record Holds (c : Catalogue) (l : List ℕ) (n : ℕ) : Type 0 where
-  pub answers : (n ≡ stored) ⊎ (n ≡ replaced)
+pub record Holds (c : Catalogue) (l : List ℕ) (n : Effect) : Type 0 where
+  pub answers : (n ≡ Stored) ⊎ (n ≡ Replaced)
   pub is_event_lem : kind l ≡ event
   pub above : (d : List ℕ) → find deletion_key (key l) c.deletions ≡ some d → deletion_version d < version l
   pub room : Roomy c (key l)
@@ -54,8 +57,8 @@ pub record Wipes (c : Catalogue) (l : List ℕ) (v : ℕ) : Type 0 where
   pub version_of : (v ≡ version l) ⊎ (v ≡ version gone)
 
 -- an LI line is stored: the answer is 20 or 21, and there is room for it
-pub record Links (c : Catalogue) (l : List ℕ) (n : ℕ) : Type 0 where
-  pub answers : (n ≡ stored) ⊎ (n ≡ replaced)
+pub record Links (c : Catalogue) (l : List ℕ) (n : Effect) : Type 0 where
+  pub answers : (n ≡ Stored) ⊎ (n ≡ Replaced)
   pub is_link_lem : kind l ≡ link
   pub room : (length c.links < 64) ⊎ ((e : List ℕ) × (find link_key (triple_key l) c.links ≡ some e))
 
@@ -99,8 +102,8 @@ module _ (c : Catalogue) (l : List ℕ) where
     unfolding over_held
     held_fair p f none = record { answers = inl refl; is_event_lem = p; above = f; room = room }
     held_fair p f (some h) =
-        pick_by (Fair c l) (ltb (version l) (version h)) (Leave outdated) (pick (same_bytes l h) (Leave repeated) (Hold replaced)) (λ t. tt)
-        (λ t. pick_by (Fair c l) (same_bytes l h) (Leave repeated) (Hold replaced) (λ u. tt) (λ u. record { answers = inr refl; is_event_lem = p; above = f; room = room }))
+        pick_by (Fair c l) (ltb (version l) (version h)) (Leave (Ok Outdated)) (pick (same_bytes l h) (Leave (Ok Repeated)) (Hold Replaced)) (λ t. tt)
+        (λ t. pick_by (Fair c l) (same_bytes l h) (Leave (Ok Repeated)) (Hold Replaced) (λ u. tt) (λ u. record { answers = inr refl; is_event_lem = p; above = f; room = room }))
 
     deleted_fair : kind l ≡ delete → (h : Option (List ℕ)) → find key (key l) c.held ≡ h → Fair c l (over_deleted (version l) h)
     unfolding over_deleted
@@ -124,9 +127,9 @@ module _ (c : Catalogue) (l : List ℕ) where
     decide_fair : (t : Notice) → kind l ≡ notice_kind t → (d h : Option (List ℕ)) → find deletion_key (key l) c.deletions ≡ d → find key (key l) c.held ≡ h → Fair c l (decide t l d h)
     unfolding decide over_blank
     decide_fair Event p d h q r =
-        pick_by (Fair c l) (covered d (version l)) (Leave outdated) (over_held l h) (λ t. tt)
+        pick_by (Fair c l) (covered d (version l)) (Leave (Ok Outdated)) (over_held l h) (λ t. tt)
         (λ t. held_fair p (λ (x : List ℕ) (u : find deletion_key (key l) c.deletions ≡ some x). covered_false d (version l) t x (sym q ∙ u)) h)
-    decide_fair Delete p d h q r = pick_by (Fair c l) (covered d (version l)) (Leave outdated) (over_deleted (version l) h) (λ t. tt) (λ t. deleted_fair p h r)
+    decide_fair Delete p d h q r = pick_by (Fair c l) (covered d (version l)) (Leave (Ok Outdated)) (over_deleted (version l) h) (λ t. tt) (λ t. deleted_fair p h r)
     decide_fair Blank p d none q r = tt
     decide_fair Blank p d (some h) q r = record { acceptable = blank_ok l p; about_pair = blank_apart l p; gone = h; is_held = r; version_of = inr refl }
 
@@ -140,11 +143,11 @@ module _ (c : Catalogue) (l : List ℕ) where
   limited_link_fair : kind l ≡ link → (o : Option (List ℕ)) → find link_key (triple_key l) c.links ≡ o → Fair c l (limited_link (length c.links) o (over_link (link_entry l) o))
   unfolding limited_link over_link
   limited_link_fair p none q =
-      pick_by (Fair c l) (leb 64 (length c.links)) (Leave links_full) (Link stored) (λ t. tt)
+      pick_by (Fair c l) (leb 64 (length c.links)) (Leave (declined_as links_full)) (Link Stored) (λ t. tt)
       (λ t. record { answers = inl refl; is_link_lem = p; room = inl (leb-false 64 (length c.links) t) })
   limited_link_fair p (some x) q =
-      pick_by (Fair c l) (ltb (link_version (link_entry l)) (link_version x)) (Leave outdated) (pick (same_bytes (link_entry l) x) (Leave repeated) (Link replaced)) (λ t. tt)
-      (λ t. pick_by (Fair c l) (same_bytes (link_entry l) x) (Leave repeated) (Link replaced) (λ u. tt) (λ u. record { answers = inr refl; is_link_lem = p; room = inr (x, q) }))
+      pick_by (Fair c l) (ltb (link_version (link_entry l)) (link_version x)) (Leave (Ok Outdated)) (pick (same_bytes (link_entry l) x) (Leave (Ok Repeated)) (Link Replaced)) (λ t. tt)
+      (λ t. pick_by (Fair c l) (same_bytes (link_entry l) x) (Leave (Ok Repeated)) (Link Replaced) (λ u. tt) (λ u. record { answers = inr refl; is_link_lem = p; room = inr (x, q) }))
 
   pub deed_fair : Fair c l (deed_of c l)
   unfolding link_deed

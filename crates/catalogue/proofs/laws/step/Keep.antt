@@ -7,6 +7,7 @@ use mathlib.Core.List.{List}
 use mathlib.Core.Option.{Option, none, some}
 use native.Mathlib.Omega.{arith}
 use Rattle.catalogue.specs.declared.decide.Deed.{Deed}
+use Rattle.catalogue.specs.declared.Effect.{Effect}
 use Rattle.catalogue.specs.declared.decide.Deed.TheVariants.{Leave, Hold, Note, Wipe, Link}
 use Rattle.catalogue.specs.Assoc.{find, put, remove, AscFrom}
 use Rattle.catalogue.specs.Line.{event, kind, version, key, deletion, deletion_key, deletion_version, triple_key, link_entry, link_key}
@@ -89,7 +90,7 @@ module _ (c : Catalogue) (G : Good c) (l : List ℕ) where
       (done_held_other c l e) (done_deletion_other c l e f) (rw (done_held c l e, done_deletion c l e f) (after_fine e f)) room links
 
   -- a link stored
-  linked_good : {n : ℕ} → Links c l n → Good (with_links c (put link_key (link_entry l) c.links))
+  linked_good : {n : Effect} → Links c l n → Good (with_links c (put link_key (link_entry l) c.links))
   unfolding named
   linked_good f =
       let ks : List (List ℕ) = put link_key (link_entry l) c.links in

@@ -1,9 +1,10 @@
--- The numbers answered that leave the catalogue as it was, and the sections that a line leaves.
-use Prim.Native.Nat.{ℕ, ◌<◌}
-use mathlib.Core.Path.{◌≡◌, refl}
-use mathlib.Core.Logic.{inl, inr}
+-- The answers that leave the catalogue as it was, and the sections that a line leaves.
+use Rattle.std.specs.Prelude.{ℕ, Ok}
+use mathlib.Core.Path.{◌≡◌, refl, subst}
+use mathlib.Core.Logic.{◌⊎◌, inl, inr}
 use mathlib.Core.List.{List}
-use native.Mathlib.Omega.{arith}
+use Rattle.catalogue.specs.declared.Effect.{Effect}
+use Rattle.catalogue.specs.declared.Effect.TheVariants.{Stored, Replaced}
 use Rattle.catalogue.specs.declared.decide.Deed.{Deed}
 use Rattle.catalogue.specs.declared.decide.Deed.TheVariants.{Leave, Hold, Note, Wipe, Link}
 use Rattle.catalogue.specs.Catalogue.{Catalogue}
@@ -12,25 +13,18 @@ use Rattle.catalogue.specs.Untouched.{ChangesNothing, Apart}
 use Rattle.catalogue.proofs.laws.step.Fair.{Fair, deed_fair}
 use Rattle.catalogue.proofs.laws.step.Done.{done_apart, done_links}
 
-changes : (n : ℕ) → 19 < n → (n ≡ 22 → ⊥) → (n ≡ 23 → ⊥) → (n ≡ 26 → ⊥) → ChangesNothing n → ⊥
-changes n h p q r u = elim u [ inl w ↦ omega arith | inr v ↦ elim v [ inl e ↦ p e | inr w ↦ elim w [ inl e ↦ q e | inr e ↦ r e ] ] ]
+stores : (e : Effect) → (e ≡ Stored) ⊎ (e ≡ Replaced) → ChangesNothing (Ok e) → ⊥
+stores e (inl p) u = subst (λ (x : Effect). ChangesNothing (Ok x)) p u
+stores e (inr p) u = subst (λ (x : Effect). ChangesNothing (Ok x)) p u
 
 module _ (c : Catalogue) (l : List ℕ) where
   done_untouched : (e : Deed) → Fair c l e → ChangesNothing (done e c l).answer → (done e c l).after ≡ c
   unfolding done
   done_untouched (Leave n) f u = refl
-  done_untouched (Hold n) f u =
-      absurd (elim f.answers [
-        | inl e ↦ changes n (omega arith) (omega arith) (omega arith) (omega arith) u
-        | inr e ↦ changes n (omega arith) (omega arith) (omega arith) (omega arith) u
-      ])
-  done_untouched (Link n) f u =
-      absurd (elim f.answers [
-        | inl e ↦ changes n (omega arith) (omega arith) (omega arith) (omega arith) u
-        | inr e ↦ changes n (omega arith) (omega arith) (omega arith) (omega arith) u
-      ])
-  done_untouched (Note v) f u = absurd (changes 25 (omega arith) (omega arith) (omega arith) (omega arith) u)
-  done_untouched (Wipe v) f u = absurd (changes 24 (omega arith) (omega arith) (omega arith) (omega arith) u)
+  done_untouched (Hold n) f u = absurd (stores n f.answers u)
+  done_untouched (Link n) f u = absurd (stores n f.answers u)
+  done_untouched (Note v) f u = absurd u
+  done_untouched (Wipe v) f u = absurd u
 
   pub step_untouched : ChangesNothing (step c l).answer → (step c l).after ≡ c
   unfolding step

@@ -1,6 +1,6 @@
 use mathlib.Core.Path.{sym, ◌∙◌}
 use Rattle.catalogue.proofs.laws.room.Found.{long_enough}
-use Rattle.catalogue.proofs.laws.room.Linked.{store_asks, store_room, link_left}
+use Rattle.catalogue.proofs.laws.room.Linked.{store_asks, store_room, not_link, link_left}
 use Rattle.catalogue.proofs.link.store_link.Goals as goal
 
 -- A link that is stored is put at its place; any other deed changes nothing.
@@ -12,21 +12,9 @@ pub put-requires : goal.put-requires
 put-requires c =
     store_asks c.requires.0 c.args.line.now c.requires.2 c.args.seek c.requires.3 (sym c.requires.4 ∙ c.in-Link.is) c.requires.1 c.end_of-used.ensures c.requires.5
 
-pub returns-in-Leave : goal.returns-in-Leave
-returns-in-Leave c =
-    link_left c.requires.0 c.args.line.now c.requires.2 _ (sym c.requires.4 ∙ c.in-Leave.is) tt
-
-pub returns-in-Hold : goal.returns-in-Hold
-returns-in-Hold c =
-    link_left c.requires.0 c.args.line.now c.requires.2 _ (sym c.requires.4 ∙ c.in-Hold.is) tt
-
-pub returns-in-Note : goal.returns-in-Note
-returns-in-Note c =
-    link_left c.requires.0 c.args.line.now c.requires.2 _ (sym c.requires.4 ∙ c.in-Note.is) tt
-
-pub returns-in-Wipe : goal.returns-in-Wipe
-returns-in-Wipe c =
-    link_left c.requires.0 c.args.line.now c.requires.2 _ (sym c.requires.4 ∙ c.in-Wipe.is) tt
+pub returns-in_default : goal.returns-in_default
+returns-in_default c =
+    link_left c.requires.0 c.args.line.now c.requires.2 c.args.deed (sym c.requires.4) (not_link c.args.deed c.in_default.not-Link)
 
 pub returns-in-Link : goal.returns-in-Link
 returns-in-Link c =

@@ -3,28 +3,20 @@ use Rattle.catalogue.specs.Moves.{put_in}
 use Rattle.catalogue.proofs.laws.section.Rows.{row_before, row_inside}
 use Rattle.catalogue.proofs.moves.put.Goals as goal
 
-pub entry_at-at-requires : goal.entry_at-at-requires
-entry_at-at-requires c =
-    (c.requires.0, omega (arith, (rw c.in-Found.is at c.requires.5)))
-
 pub copy_in-requires : goal.copy_in-requires
 copy_in-requires c =
-    omega (arith, c.entry_at-at.ensures, row_inside c.args.of.size _ c.args.of.count ((rw c.in-Found.is at c.requires.5)), c.requires.0.fits, c.requires.4)
-
-pub entry_at-at-requires-in-Missing : goal.entry_at-at-requires-in-Missing
-entry_at-at-requires-in-Missing c =
-    (c.requires.0, (rw c.in-Missing.is at c.requires.5))
+    omega (arith, c.entry_at-at.ensures, row_inside c.args.of.size _ c.args.of.count ((rw c.in-Ok.is at c.requires.5)), c.requires.0.fits, c.requires.4)
 
 pub splice-requires : goal.splice-requires
 splice-requires c =
-    (omega (arith, c.entry_at-at-in-Missing.ensures, row_before c.args.of.size _ c.args.of.count ((rw c.in-Missing.is at c.requires.5)), c.requires.1), rw c.in-Missing.is at c.requires.2)
+    (omega (arith, c.entry_at-at-in-Err.ensures, row_before c.args.of.size _ c.args.of.count ((rw c.in-Err.is at c.requires.5)), c.requires.1), rw c.in-Err.is at c.requires.2)
 
-pub returns-in-Found : goal.returns-in-Found
+pub returns-in-Ok : goal.returns-in-Ok
 unfolding put_in
-returns-in-Found c =
-    rw (c.in-Found.is, ← c.entry_at-at.ensures) c.copy_in.ensures
+returns-in-Ok c =
+    rw (c.in-Ok.is, ← c.entry_at-at.ensures) c.copy_in.ensures
 
-pub returns-in-Missing : goal.returns-in-Missing
+pub returns-in-Err : goal.returns-in-Err
 unfolding put_in
-returns-in-Missing c =
-    rw (c.in-Missing.is, ← c.entry_at-at-in-Missing.ensures, ← c.splice.ensures) c.set_count.ensures
+returns-in-Err c =
+    rw (c.in-Err.is, ← c.entry_at-at-in-Err.ensures, ← c.splice.ensures) c.set_count.ensures

@@ -1,4 +1,3 @@
-use Prim.Native.Nat.{◌-◌}
 use Rattle.catalogue.specs.Entries.{entries_of}
 use Rattle.catalogue.proofs.laws.room.Weight.{Walk}
 use Rattle.catalogue.proofs.order.only_held.Given as goal
@@ -6,8 +5,4 @@ use Rattle.catalogue.proofs.order.only_held.Given as goal
 -- The walk over the held lines, a turn at a time; the deletions are walked beside them.
 abbrev pub invariant-loop-i : goal.invariant-loop-i
 invariant-loop-i l =
-    Walk (entries_of l.deletions l.s) (entries_of l.held l.s) l.k l.i l.j
-
-abbrev pub decreases-loop-i : goal.decreases-loop-i
-decreases-loop-i l =
-    l.held.count - l.i
+    Walk (entries_of l.deletions.of l.deletions.bytes.now) (entries_of l.held.of l.held.bytes.now) l.k l.i l.j

@@ -1,19 +1,20 @@
 use native.Mathlib.Omega.{arith}
-use mathlib.Core.Path.{sym, ◌∙◌}
-use Rattle.catalogue.proofs.laws.room.Zeros.{zero_stop, zero_end, zero_run}
+use mathlib.Core.Path.{◌≡◌, sym, ◌∙◌}
+use lib.ListN.{length}
+use borrow.Author.Tests.{ne_eqb, eqb-true, eqb-false}
+use Rattle.catalogue.proofs.laws.room.Zeros.{zero_none, zero_run, zero_stop}
 use Rattle.catalogue.proofs.order.zeros.Goals as goal
 
-pub returns-then-from-to : goal.returns-then-from-to
-returns-then-from-to c =
-    let a = c.args in
-    sym (zero_end a.s.now a.to (omega arith) a.from (omega (arith, c.if-from-to.true)))
+pub returns-then-is_empty : goal.returns-then-is_empty
+returns-then-is_empty c =
+    c.if-is_empty.true ∙ sym (zero_none c.args.s.now (eqb-true _ 0 (sym c.if-is_empty.ensures)))
 
-pub returns-then-s-from-ne0 : goal.returns-then-s-from-ne0
-returns-then-s-from-ne0 c =
-    let a = c.args in
-    sym (zero_stop a.s.now a.to (omega arith) a.from (omega (arith, c.if-from-to.false)) c.if-s-from-ne0.true)
+pub returns-then-s-eq0 : goal.returns-then-s-eq0
+returns-then-s-eq0 c =
+    let n : length c.args.s.now ≡ 0 → ⊥ = eqb-false _ 0 (sym c.if-is_empty.ensures) in
+    c.same.ensures ∙ zero_run c.args.s.now (omega arith) c.if-s-eq0.true
 
-pub returns : goal.returns
-returns c =
-    let a = c.args in
-    c.same.ensures ∙ zero_run a.s.now a.from a.to (omega (arith, c.if-from-to.false)) (omega arith) c.if-s-from-ne0.false
+pub returns-else-s-eq0 : goal.returns-else-s-eq0
+returns-else-s-eq0 c =
+    let n : length c.args.s.now ≡ 0 → ⊥ = eqb-false _ 0 (sym c.if-is_empty.ensures) in
+    ne_eqb _ 0 c.if-s-eq0.false ∙ sym (zero_stop c.args.s.now (omega arith) c.if-s-eq0.false)

@@ -17,10 +17,13 @@ overflow_sub-left t c = omega (arith, one_left c.requires c.if-end-first.false)
 pub held_in-requires : goal.held_in-requires
 held_in-requires t c = omega (arith, c.requires.inside.fits)
 
+pub invariant_of-held : goal.invariant_of-held
+invariant_of-held t c =
+    record { inside = (middle_held c.requires c.if-end-first.false c.held_in.ensures).0 }
+
 pub key_of-here-requires : goal.key_of-here-requires
 key_of-here-requires t c =
-    let m = middle_held c.requires c.if-end-first.false c.held_in.ensures in
-    (m.0, omega (arith, m.1))
+    omega (arith, (middle_held c.requires c.if-end-first.false c.held_in.ensures).1)
 
 pub returns-then-equal : goal.returns-then-equal
 returns-then-equal t c =

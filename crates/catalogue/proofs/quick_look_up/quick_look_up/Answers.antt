@@ -12,26 +12,25 @@ pub returns-then-room-lt-ROOM : goal.returns-then-room-lt-ROOM
 returns-then-room-lt-ROOM c =
     let a = c.args in
     answered a.room.now a.source.now a.identifier.now
-    (c.refused.ensures ∙ quick_short a.room.now a.source.now a.identifier.now (omega (arith, room_size_lem, c.if-room-lt-ROOM.true)))
+    (quick_short a.room.now a.source.now a.identifier.now (omega (arith, room_size_lem, c.if-room-lt-ROOM.true)))
 
 pub returns-then-count-gt-PAIRS : goal.returns-then-count-gt-PAIRS
 returns-then-count-gt-PAIRS c =
     let a = c.args in
     answered a.room.now a.source.now a.identifier.now
-    (c.refused-then-count-gt-PAIRS.ensures ∙ quick_disorder a.room.now a.source.now a.identifier.now (omega (arith, room_size_lem, c.if-room-lt-ROOM.false)) (omega (arith, (ap (λ (x : Section). x.count) c.held_in-held.ensures ∙ held_total c.args.room.now), c.if-count-gt-PAIRS.true)))
+    (quick_disorder a.room.now a.source.now a.identifier.now (omega (arith, room_size_lem, c.if-room-lt-ROOM.false)) (omega (arith, (ap (λ (x : Section). x.count) c.held_in-held.ensures ∙ held_total c.args.room.now), c.if-count-gt-PAIRS.true)))
 
 pub returns-then-source-ne2 : goal.returns-then-source-ne2
 returns-then-source-ne2 c =
     let a = c.args in
     answered a.room.now a.source.now a.identifier.now
-    (c.refused-then-source-ne2.ensures ∙ quick_source a.room.now a.source.now a.identifier.now (omega (arith, room_size_lem, c.if-room-lt-ROOM.false)) (omega (arith, ap (λ (x : Section). x.count) c.held_in-held.ensures ∙ held_total c.args.room.now, c.if-count-gt-PAIRS.false)) c.if-source-ne2.true)
+    (quick_source a.room.now a.source.now a.identifier.now (omega (arith, room_size_lem, c.if-room-lt-ROOM.false)) (omega (arith, ap (λ (x : Section). x.count) c.held_in-held.ensures ∙ held_total c.args.room.now, c.if-count-gt-PAIRS.false)) c.if-source-ne2.true)
 
 pub returns-then-identifier-ne8 : goal.returns-then-identifier-ne8
 returns-then-identifier-ne8 c =
     let a = c.args in
     answered a.room.now a.source.now a.identifier.now
-    (c.refused-then-identifier-ne8.ensures
-    ∙ quick_identifier a.room.now a.source.now a.identifier.now (omega (arith, room_size_lem, c.if-room-lt-ROOM.false)) (omega (arith, ap (λ (x : Section). x.count) c.held_in-held.ensures ∙ held_total c.args.room.now, c.if-count-gt-PAIRS.false)) c.if-source-ne2.false c.if-identifier-ne8.true)
+    (quick_identifier a.room.now a.source.now a.identifier.now (omega (arith, room_size_lem, c.if-room-lt-ROOM.false)) (omega (arith, ap (λ (x : Section). x.count) c.held_in-held.ensures ∙ held_total c.args.room.now, c.if-count-gt-PAIRS.false)) c.if-source-ne2.false c.if-identifier-ne8.true)
 
 pub search_all-requires : goal.search_all-requires
 search_all-requires c =

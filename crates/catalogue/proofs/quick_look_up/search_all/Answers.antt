@@ -27,6 +27,6 @@ pub returns-then-place-lt-PAIRS : goal.returns-then-place-lt-PAIRS
 returns-then-place-lt-PAIRS c =
     (whole_held (held_key c.args.room.now) (key_number (pair_key c.args.source c.args.identifier)) c.args.count c.requires.2 c.search-place.ensures c.if-place-lt-PAIRS.true, omega arith)
 
-pub returns : goal.returns
-returns c =
+pub returns-else-place-lt-PAIRS : goal.returns-else-place-lt-PAIRS
+returns-else-place-lt-PAIRS c =
     (whole_none (held_key c.args.room.now) (key_number (pair_key c.args.source c.args.identifier)) c.args.count c.requires.2 c.search-place.ensures c.if-place-lt-PAIRS.false, omega arith)

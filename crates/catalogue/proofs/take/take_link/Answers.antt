@@ -1,6 +1,5 @@
 use native.Mathlib.Omega.{arith}
 use mathlib.Core.Path.{◌≡◌, refl, ◌∙◌, ap}
-use Prim.Native.Nat.{ℕ}
 use lib.ListN.{length}
 use Rattle.catalogue.specs.declared.section.Section.{Section}
 use Rattle.catalogue.specs.Entries.{entries_of}
@@ -18,8 +17,8 @@ pub deletions_in-requires : goal.deletions_in-requires
 deletions_in-requires c =
     (c.held_in.ensures, rw c.held_in.ensures (long_enough c.args.room.now c.requires.0).1)
 
-pub links_in-links-requires : goal.links_in-links-requires
-links_in-links-requires c =
+pub links_in-of-requires : goal.links_in-of-requires
+links_in-of-requires c =
     (c.deletions_in.ensures, rw c.deletions_in.ensures (long_enough c.args.room.now c.requires.0).2)
 
 pub link_entry-entry-requires : goal.link_entry-entry-requires
@@ -31,16 +30,19 @@ triple_at-requires c =
     let n : length c.link_entry-entry.result ≡ 256 = ap length c.link_entry-entry.ensures ∙ entry_length c.args.line.now (link_whole c.args.line.now c.requires.2) in
     (omega arith, omega arith)
 
+pub invariant_of-links : goal.invariant_of-links
+invariant_of-links c =
+    record { inside = (links_open c.requires.0 c.links_in-of.ensures).0 }
+
 pub look-seek-requires : goal.look-seek-requires
 look-seek-requires c =
-    links_open c.requires.0 c.links_in-links.ensures
+    (links_open c.requires.0 c.links_in-of.ensures).1
 
 pub over_link-requires : goal.over_link-requires
 over_link-requires c =
-    let e = c.links_in-links.ensures in (
-      (links_open c.requires.0 e).0,
+    let e = c.links_in-of.ensures in (
       ap (λ (s : Section). s.size) e,
-      link_place c.requires.0 e c.args.line.now c.requires.2 c.look-seek.result ((let e = c.links_in-links.ensures in
+      link_place c.requires.0 e c.args.line.now c.requires.2 c.look-seek.result ((let e = c.links_in-of.ensures in
           link_sought c.requires.0 e c.args.line.now c.requires.2 (line_key c.requires.0 e c.args.line.now c.requires.2 c.link_entry-entry.ensures c.triple_at.ensures) c.look-seek.result c.look-seek.ensures)),
       ap length c.link_entry-entry.ensures ∙ entry_length c.args.line.now (link_whole c.args.line.now c.requires.2),
     )
@@ -48,13 +50,13 @@ over_link-requires c =
 pub store_link-requires : goal.store_link-requires
 store_link-requires c = (
   c.requires.0,
-  c.links_in-links.ensures,
+  c.links_in-of.ensures,
   c.requires.2,
-  (let e = c.links_in-links.ensures in
+  (let e = c.links_in-of.ensures in
       link_sought c.requires.0 e c.args.line.now c.requires.2 (line_key c.requires.0 e c.args.line.now c.requires.2 c.link_entry-entry.ensures c.triple_at.ensures) c.look-seek.result c.look-seek.ensures),
   (let c = c in
-      let e = c.links_in-links in
-      link_decided c.requires.0 e.ensures c.args.line.now c.requires.2 c.look-seek.result ((let e = c.links_in-links.ensures in
+      let e = c.links_in-of in
+      link_decided c.requires.0 e.ensures c.args.line.now c.requires.2 c.look-seek.result ((let e = c.links_in-of.ensures in
       link_sought c.requires.0 e c.args.line.now c.requires.2 (line_key c.requires.0 e c.args.line.now c.requires.2 c.link_entry-entry.ensures c.triple_at.ensures) c.look-seek.result c.look-seek.ensures)) c.link_entry-entry.ensures c.over_link.ensures
       (c.limited_link-deed.ensures (entries_of e.result c.args.room.now))),
   c.link_entry-entry.ensures,
@@ -63,7 +65,7 @@ store_link-requires c = (
 pub returns : goal.returns
 returns c =
     took_link c.requires.0 c.args.line.now c.requires.2 ((let c = c in
-    let e = c.links_in-links in
-    link_decided c.requires.0 e.ensures c.args.line.now c.requires.2 c.look-seek.result ((let e = c.links_in-links.ensures in
+    let e = c.links_in-of in
+    link_decided c.requires.0 e.ensures c.args.line.now c.requires.2 c.look-seek.result ((let e = c.links_in-of.ensures in
     link_sought c.requires.0 e c.args.line.now c.requires.2 (line_key c.requires.0 e c.args.line.now c.requires.2 c.link_entry-entry.ensures c.triple_at.ensures) c.look-seek.result c.look-seek.ensures)) c.link_entry-entry.ensures c.over_link.ensures
-    (c.limited_link-deed.ensures (entries_of e.result c.args.room.now)))) c.requires.1 c.store_link.ensures _ (ap (λ (n : ℕ). record { number = n; column = 0 }) c.answer_of.ensures) refl
+    (c.limited_link-deed.ensures (entries_of e.result c.args.room.now)))) c.requires.1 c.store_link.ensures _ c.answer_of.ensures refl

@@ -1,6 +1,4 @@
 use native.Mathlib.Omega.{arith}
-use mathlib.Core.Path.{ap}
-use Prim.Native.Nat.{ℕ}
 use Rattle.catalogue.specs.Entries.{entries_of}
 use Rattle.catalogue.proofs.laws.step.Line.{whole}
 use Rattle.catalogue.proofs.laws.room.Found.{notice_ok, known_placed, notice_apart}
@@ -28,4 +26,4 @@ pub returns : goal.returns
 returns c =
     took c.requires.0 c.look_both-f.ensures ((notice_ok c.args.line.now c.args.notice c.requires.2)) ((let f = c.look_both-f in
     decided c.requires.0 f.ensures c.args.notice c.requires.2 c.requires.1 c.decide.ensures (c.limited-deed.ensures (entries_of f.result.deletions c.args.room.now) (entries_of f.result.held c.args.room.now)))) c.requires.1
-    c.carry_out.ensures _ (ap (λ (n : ℕ). record { number = n; column = 0 }) c.answer_of.ensures) c.named_after.ensures
+    c.carry_out.ensures _ c.answer_of.ensures c.named_after.ensures

@@ -13,21 +13,21 @@ used_in-used-requires c =
 
 pub take_out-requires : goal.take_out-requires
 take_out-requires c =
-    wipe_asks c.requires.0 c.requires.1 c.requires.2 c.in-Found.is c.used_in-used.ensures
+    wipe_asks c.requires.0 c.requires.1 c.requires.2 c.in-Ok.is c.used_in-used.ensures
 
 pub held_in-requires : goal.held_in-requires
 held_in-requires c =
-    (long_enough _ ((between c.requires.0 c.requires.1 c.requires.2 c.in-Found.is c.used_in-used.ensures c.take_out.ensures)).ordered).0
+    (long_enough _ ((between c.requires.0 c.requires.1 c.requires.2 c.in-Ok.is c.used_in-used.ensures c.take_out.ensures)).ordered).0
 
 pub deletions_in-rest-requires : goal.deletions_in-rest-requires
 deletions_in-rest-requires c =
-    (c.held_in.ensures, rw c.held_in.ensures (long_enough _ ((between c.requires.0 c.requires.1 c.requires.2 c.in-Found.is c.used_in-used.ensures c.take_out.ensures)).ordered).1)
+    (c.held_in.ensures, rw c.held_in.ensures (long_enough _ ((between c.requires.0 c.requires.1 c.requires.2 c.in-Ok.is c.used_in-used.ensures c.take_out.ensures)).ordered).1)
 
 pub note-requires : goal.note-requires
 note-requires c =
-    let b = (between c.requires.0 c.requires.1 c.requires.2 c.in-Found.is c.used_in-used.ensures c.take_out.ensures) in
+    let b = (between c.requires.0 c.requires.1 c.requires.2 c.in-Ok.is c.used_in-used.ensures c.take_out.ensures) in
     (b.ordered, c.deletions_in-rest.ensures, b.able)
 
 pub returns : goal.returns
 returns c =
-    c.note.ensures ∙ ((between c.requires.0 c.requires.1 c.requires.2 c.in-Found.is c.used_in-used.ensures c.take_out.ensures)).done_is
+    c.note.ensures ∙ ((between c.requires.0 c.requires.1 c.requires.2 c.in-Ok.is c.used_in-used.ensures c.take_out.ensures)).done_is

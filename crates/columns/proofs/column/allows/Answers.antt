@@ -13,9 +13,3 @@ returns-then-k-eq2 c =
     let z = to_z-of_z w64 a.v (search rules) in
     rw z at c.day_after.ensures
     ∙ allowed_day a.ranges.now a.k (take a.n (slots_of a.flags.now a.values.now)) a.v c.if-k-eq2.true
-
-pub returns : goal.returns
-returns c =
-    let a = c.args in
-    let z = to_z-of_z w64 a.v (search rules) in
-    rw z at (c.in_range_at.ensures (take a.n (slots_of a.flags.now a.values.now)))

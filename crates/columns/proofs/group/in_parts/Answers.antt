@@ -19,5 +19,4 @@ returns c =
     let hb = to_z-of_z w64 a.g.second.high (search (rules, c.well_formed)) in
     let lc = to_z-of_z w64 a.g.third.low (search (rules, c.well_formed)) in
     let hc = to_z-of_z w64 a.g.third.high (search (rules, c.well_formed)) in
-    λ seen. c.all_three.ensures
-    ∙ rw (rw (zx, la, ha) at c.in_range.ensures ∙ part_allowed a.g.first seen a.x, rw (zy, lb, hb) at c.in_range-2.ensures ∙ part_allowed a.g.second (seen ++ given a.x ∷ []) a.y, rw (zz, lc, hc) at c.in_range-3.ensures ∙ part_allowed a.g.third (seen ++ given a.x ∷ given a.y ∷ []) a.z)
+    λ seen. rw (rw (zx, la, ha) at c.in_range-3.ensures ∙ part_allowed a.g.first seen a.x, rw (zy, lb, hb) at c.in_range.ensures ∙ part_allowed a.g.second (seen ++ given a.x ∷ []) a.y, rw (zz, lc, hc) at c.in_range-2.ensures ∙ part_allowed a.g.third (seen ++ given a.x ∷ given a.y ∷ []) a.z)

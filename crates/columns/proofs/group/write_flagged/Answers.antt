@@ -8,6 +8,7 @@ use Rattle.columns.specs.Table.{slot_of}
 use Rattle.columns.proofs.laws.Answers.{wrote_refused, wrote_as}
 use Rattle.columns.proofs.laws.Puts.{no_first, no_second, no_third, all_three}
 use Rattle.columns.proofs.group.write_flagged.Goals as goal
+use Rattle.columns.proofs.group.write_flagged.Goals.{then-fb-eq0-via-then-fb-eq0, then-fb-eq0-via-else-fb-eq0+then-fc-eq0}
 
 pub returns-then-fa-eq0 : goal.returns-then-fa-eq0
 returns-then-fa-eq0 c =
@@ -20,12 +21,12 @@ returns-then-fa-eq0 c =
 pub returns-then-fb-eq0 : goal.returns-then-fb-eq0
 returns-then-fb-eq0 c =
     let a = c.args in
-    λ seen. wrote_refused (put_group a.g seen a.at (slot_of a.fa a.x) (slot_of a.fb a.y) (slot_of a.fc a.z)) a.out.now required_blank (a.at + 1) (no_second a.g seen a.at a.fa a.fb a.fc a.x a.y a.z c.if-fa-eq0.false c.if-fb-eq0.true)
-
-pub returns-then-fc-eq0 : goal.returns-then-fc-eq0
-returns-then-fc-eq0 c =
-    let a = c.args in
-    λ seen. wrote_refused (put_group a.g seen a.at (slot_of a.fa a.x) (slot_of a.fb a.y) (slot_of a.fc a.z)) a.out.now required_blank (a.at + 1) (no_third a.g seen a.at a.fa a.fb a.fc a.x a.y a.z c.if-fa-eq0.false c.if-fb-eq0.false c.if-fc-eq0.true)
+    λ seen. rw c.at.ensures
+    (wrote_refused (put_group a.g seen a.at (slot_of a.fa a.x) (slot_of a.fb a.y) (slot_of a.fc a.z)) a.out.now required_blank (a.at + 1)
+    (elim c.then-fb-eq0.branch [
+      | then-fb-eq0-via-then-fb-eq0 w ↦ no_second a.g seen a.at a.fa a.fb a.fc a.x a.y a.z c.if-fa-eq0.false w.if-fb-eq0.true
+      | then-fb-eq0-via-else-fb-eq0+then-fc-eq0 w ↦ no_third a.g seen a.at a.fa a.fb a.fc a.x a.y a.z c.if-fa-eq0.false w.if-fb-eq0.false w.if-fc-eq0.true
+    ]))
 
 pub returns : goal.returns
 returns c =

@@ -19,8 +19,9 @@ returns-then-not-holds_group c =
     let zx = to_z-of_z w64 a.x (search rules) in
     let zy = to_z-of_z w64 a.y (search rules) in
     let zz = to_z-of_z w64 a.z (search rules) in
-    λ seen. wrote_refused (put_group a.g seen a.at (given a.x) (given a.y) (given a.z)) a.out.now too_wide (a.at + 1)
-    (three_wide a.g seen a.at a.x a.y a.z (sym (rw (zx, zy, zz) at c.holds_group.ensures) ∙ not-true _ c.if-not-holds_group.true-raw))
+    λ seen. rw c.at.ensures
+    (wrote_refused (put_group a.g seen a.at (given a.x) (given a.y) (given a.z)) a.out.now too_wide (a.at + 1)
+    (three_wide a.g seen a.at a.x a.y a.z (sym (rw (zx, zy, zz) at c.holds_group.ensures) ∙ not-true _ c.if-not-holds_group.true-raw)))
 
 pub returns-then-not-in_group : goal.returns-then-not-in_group
 returns-then-not-in_group c =
@@ -28,9 +29,10 @@ returns-then-not-in_group c =
     let zx = to_z-of_z w64 a.x (search rules) in
     let zy = to_z-of_z w64 a.y (search rules) in
     let zz = to_z-of_z w64 a.z (search rules) in
-    λ seen. wrote_refused (put_group a.g seen a.at (given a.x) (given a.y) (given a.z)) a.out.now out_of_range (a.at + 1)
+    λ seen. rw c.at-then-not-in_group.ensures
+    (wrote_refused (put_group a.g seen a.at (given a.x) (given a.y) (given a.z)) a.out.now out_of_range (a.at + 1)
     (three_out a.g seen a.at a.x a.y a.z (sym (rw (zx, zy, zz) at c.holds_group.ensures) ∙ not-false _ c.if-not-holds_group.false-raw)
-    (sym (rw (zx, zy, zz) at (c.in_group.ensures seen)) ∙ not-true _ c.if-not-in_group.true-raw))
+    (sym (rw (zx, zy, zz) at (c.in_group.ensures seen)) ∙ not-true _ c.if-not-in_group.true-raw)))
 
 pub returns : goal.returns
 returns c =

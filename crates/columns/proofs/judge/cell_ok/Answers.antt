@@ -1,46 +1,56 @@
 use borrow.Author.Rules.{rules}
 use native.Mathlib.Omega.{arith}
-use mathlib.Core.Path.{◌≡◌, ◌∙◌}
-use mathlib.Core.List.{[]}
-use Prim.Native.Nat.{◌+◌}
+use mathlib.Core.Path.{◌≡◌, refl, sym, ap, ◌∙◌}
+use mathlib.Core.List.{List, [], ◌∷◌}
+use Prim.Native.Nat.{ℕ, ◌+◌, ◌-◌, ◌≤◌}
+use lib.ListN.{length, take, drop, get_or, length-take, length-drop}
 use lib.Seq.{slice}
-use Rattle.columns.specs.Table.{col_of, range_at, rule_at}
+use Rattle.columns.specs.Column.{text, numeric}
 use Rattle.columns.specs.Judge.{last_day_before}
-use Rattle.columns.proofs.laws.Table.{col_integer, good_number, good_text}
+use Rattle.columns.specs.Table.{range_at}
+use Rattle.columns.specs.declared.column.Column.TheVariants as K
+use Rattle.columns.specs.declared.number.Form.TheVariants as N
+use Rattle.columns.proofs.laws.Bytes.{slice_is}
+use Rattle.columns.proofs.laws.Table.{good_text}
 use Rattle.columns.proofs.laws.Form.{good_int, form_integer}
-use Rattle.columns.proofs.laws.Judge.{day_looks, number_judged, text_judged, simple_text}
+use Rattle.columns.proofs.laws.Judge.{day_looks, number_judged, text_judged}
 use Rattle.columns.proofs.judge.cell_ok.Goals as goal
 
-pub int_field-requires : goal.int_field-requires
-int_field-requires c =
+pub read_int-field-requires : goal.read_int-field-requires
+read_int-field-requires c =
     let a = c.args in
-    let p = c.requires in
-    let k : a.c.kind ≡ 0 = omega (arith, p.0, c.if-row-lt-DECIMAL.true) in
-    (search rules, (good_int a.c.width (good_number (col_of a.c a.ranges.now []) _ _ _ (col_integer a.c a.ranges.now [] k) p.1.1.0)).1)
+    let w = c.in-Number-Integer-default-default in
+    let e : a.c ≡ K.Number (N.Integer w.width) w.required w.range = search rules in
+    let p = rw e at c.requires in
+    omega (arith, length-take (a.at + w.width - a.at) (drop a.at a.line.now), (good_int w.width p.0).1)
 
 pub number_ok-requires : goal.number_ok-requires
 number_ok-requires c =
     let a = c.args in
-    let p = c.requires in
-    let k : a.c.kind ≡ 0 = omega (arith, p.0, c.if-row-lt-DECIMAL.true) in
-    (p.1.0, (omega (arith, p.1.1.1.1.1), λ e. p.1.1.1.1.0 (rw (col_integer a.c a.ranges.now [] k) (day_looks a.ranges.now a.c.last e))))
-
-pub returns-then-row-lt-DECIMAL : goal.returns-then-row-lt-DECIMAL
-returns-then-row-lt-DECIMAL c =
-    let a = c.args in
-    let k : a.c.kind ≡ 0 = omega (arith, c.requires.0, c.if-row-lt-DECIMAL.true) in
-    number_judged (col_of a.c a.ranges.now []) _ a.c.required (range_at a.ranges.now a.c.last) (slice a.at (a.at + a.c.width) a.line.now) (last_day_before a.line.now a.at) _ _ (col_integer a.c a.ranges.now [] k) (c.int_field.ensures ∙ form_integer a.c.width _) (λ seen k h. c.number_ok.ensures seen k (λ e. h (day_looks a.ranges.now a.c.last e)))
+    let w = c.in-Number-Integer-default-default in
+    let e : a.c ≡ K.Number (N.Integer w.width) w.required w.range = search rules in
+    let p = rw e at c.requires in
+    (omega (arith, p.1.1.1), λ q. p.1.1.0 (day_looks a.ranges.now w.range q))
 
 pub text_ok-requires : goal.text_ok-requires
 text_ok-requires c =
     let a = c.args in
-    let p = c.requires in
-    let e = simple_text a.c a.ranges.now [] p.1.1.1.0 (λ k. omega (arith, p.0, c.if-row-lt-DECIMAL.false)) in
-    (good_text a.c.width (rule_at a.c.last) (col_of a.c a.ranges.now []) e p.1.1.0, search rules)
+    let w = c.in-Text in
+    let p = rw c.in-Text.is at c.requires in
+    omega (arith, length-take (a.at + w.width - a.at) (drop a.at a.line.now), length-drop a.at a.line.now, good_text w.width w.rule (text w.width w.rule) refl p.0, p.1.1.1)
 
-pub returns : goal.returns
-returns c =
+pub returns-in-Number-Integer-default-default : goal.returns-in-Number-Integer-default-default
+returns-in-Number-Integer-default-default c =
     let a = c.args in
-    let p = c.requires in
-    let e = simple_text a.c a.ranges.now [] p.1.1.1.0 (λ k. omega (arith, p.0, c.if-row-lt-DECIMAL.false)) in
-    text_judged (col_of a.c a.ranges.now []) a.c.width (rule_at a.c.last) a.at _ _ _ e c.text_ok.ensures
+    let w = c.in-Number-Integer-default-default in
+    let e : a.c ≡ K.Number (N.Integer w.width) w.required w.range = search rules in
+    let z : a.at + w.width - a.at ≡ w.width = omega arith in
+    let x = rw (z, ← slice_is a.line.now a.at w.width) at c.read_int-field.ensures in
+    rw e
+    (number_judged (numeric (N.Integer w.width) w.required (range_at a.ranges.now w.range)) (N.Integer w.width) w.required (range_at a.ranges.now w.range) (slice a.at (a.at + w.width) a.line.now) (last_day_before a.line.now a.at) _ _ refl (x ∙ form_integer w.width _) (λ seen k h. c.number_ok.ensures seen k (λ q. h (day_looks a.ranges.now w.range q))))
+
+pub returns-in-Text : goal.returns-in-Text
+returns-in-Text c =
+    let a = c.args in
+    let z : a.at + c.in-Text.width - a.at ≡ c.in-Text.width = omega arith in
+    rw c.in-Text.is (text_judged (text c.in-Text.width c.in-Text.rule) c.in-Text.width c.in-Text.rule a.at _ _ _ refl (rw (z, ← slice_is a.line.now a.at c.in-Text.width) at (c.text_ok.ensures a.at)))

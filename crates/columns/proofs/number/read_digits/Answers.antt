@@ -1,45 +1,32 @@
-use borrow.Author.Rules.{rules}
 use native.Mathlib.Omega.{arith}
 use mathlib.Core.Path.{sym, ◌∙◌}
 use borrow.Author.Tests.{not-true, not-false}
-use lib.ListN.{get_or}
+use lib.ListN.{get_or, length}
 use Rattle.columns.proofs.laws.Number.{digits_other, digits_step, digits_none, digit_bounds, room_le, room_at}
 use Rattle.columns.proofs.number.read_digits.Goals as goal
 
 pub returns-then-not-is_digit : goal.returns-then-not-is_digit
 returns-then-not-is_digit c =
-    let a = c.args in
-    sym (c.loop-i.invariant.3 ∙ digits_other a.line.now c.loop-i.i a.to (search rules) (search rules) _ (sym c.is_digit.ensures ∙ not-true _ c.if-not-is_digit.true-raw))
+    let l = c.loop-b in
+    sym (l.invariant.1 ∙ digits_other c.args.s.now l.b-index c.loop-b-test.true l.n (sym c.is_digit.ensures ∙ not-true _ c.if-not-is_digit.true-raw))
 
 pub overflow_mul-n : goal.overflow_mul-n
-overflow_mul-n c =
-    omega (arith, room_le _ _ _ c.loop-i.invariant.2)
-
-pub overflow_sub-n : goal.overflow_sub-n
-overflow_sub-n c =
-    let b = get_or c.args.line.now c.loop-i.i 0 in
-    omega (arith, (digit_bounds b (sym c.is_digit.ensures ∙ not-false _ c.if-not-is_digit.false-raw)).0)
-
-pub overflow_cast-n : goal.overflow_cast-n
-overflow_cast-n c =
-    let b = get_or c.args.line.now c.loop-i.i 0 in
-    omega (arith, (digit_bounds b (sym c.is_digit.ensures ∙ not-false _ c.if-not-is_digit.false-raw)).1)
+overflow_mul-n c = omega (arith, room_le _ _ _ c.loop-b.invariant.0)
 
 pub overflow_add-n : goal.overflow_add-n
 overflow_add-n c =
-    let b = get_or c.args.line.now c.loop-i.i 0 in
-    let d = digit_bounds b (sym c.is_digit.ensures ∙ not-false _ c.if-not-is_digit.false-raw) in
-    omega (arith, room_le _ _ _ c.loop-i.invariant.2, d.0, d.1)
+    let d = digit_bounds (get_or c.args.s.now c.loop-b.b-index 0) (sym c.is_digit.ensures ∙ not-false _ c.if-not-is_digit.false-raw) in
+    omega (arith, room_le _ _ _ c.loop-b.invariant.0, d.0, d.1, c.from.ensures)
 
-pub loop-i-preserved : goal.loop-i-preserved
-loop-i-preserved c =
-    let a = c.args in
-    let b = get_or a.line.now c.loop-i.i 0 in
+pub loop-b-preserved : goal.loop-b-preserved
+loop-b-preserved c =
+    let l = c.loop-b in
     let e = sym c.is_digit.ensures ∙ not-false _ c.if-not-is_digit.false-raw in
-    let d = digit_bounds b e in
-    (search rules, search rules, room_at c.loop-i.i a.to c.loop-i.n _ _ (search rules) (omega (arith, d.0, d.1)) c.loop-i.invariant.2, c.loop-i.invariant.3 ∙ digits_step a.line.now c.loop-i.i a.to (search rules) (search rules) c.loop-i.n e)
+    let d = digit_bounds (get_or c.args.s.now l.b-index 0) e in
+    rw c.from.ensures
+    (room_at l.b-index (length c.args.s.now) l.n _ _ c.loop-b-test.true (omega (arith, d.0, d.1)) l.invariant.0, l.invariant.1 ∙ digits_step c.args.s.now l.b-index c.loop-b-test.true l.n e)
 
 pub returns : goal.returns
 returns c =
-    let a = c.args in
-    sym (c.loop-i.invariant.3 ∙ digits_none a.line.now c.loop-i.i a.to _ (search rules) (search rules))
+    let l = c.loop-b in
+    sym (l.invariant.1 ∙ digits_none c.args.s.now l.b-index l.n c.loop-b-test.false)

@@ -1,28 +1,20 @@
-use mathlib.Core.Path.{sym, ◌∙◌, ap}
-use Prim.Native.Nat.{◌<◌}
-use native.Mathlib.Omega.{arith}
 use borrow.Author.Rules.{rules}
+use mathlib.Core.Path.{sym, ap, ◌∙◌}
+use lib.ListN.{length}
 use Rattle.columns.specs.Number.{with_sign}
-use Rattle.columns.proofs.laws.Number.{number_none, number_part, one_room}
+use Rattle.columns.proofs.laws.Number.{number_part, number_none, one_room}
 use Rattle.columns.proofs.number.scan_number.Goals as goal
 
-pub returns-then-from-to : goal.returns-then-from-to
-returns-then-from-to c =
-    let a = c.args in
-    sym (ap (with_sign a.minus) (number_none a.line.now a.from a.to c.if-from-to.true))
+pub returns-then-is_empty : goal.returns-then-is_empty
+returns-then-is_empty c = sym (ap (with_sign c.args.minus) (number_none c.args.s.now (search rules)))
 
 pub read_digits-requires : goal.read_digits-requires
-read_digits-requires c =
-    (search rules, (search rules, one_room _ (search rules)))
+read_digits-requires c = one_room (length c.args.s.now) c.requires
 
-pub returns-in-Number : goal.returns-in-Number
-returns-in-Number c =
-    let a = c.args in
-    let lt : a.from < a.to = omega (arith, c.if-from-to.false) in
-    sym (ap (with_sign a.minus) (number_part a.line.now a.from a.to lt (search rules) ∙ sym c.read_digits.ensures ∙ c.in-Number.is))
+pub returns-in-Some : goal.returns-in-Some
+returns-in-Some c =
+    sym (ap (with_sign c.args.minus) (number_part c.args.s.now (search rules) ∙ sym c.read_digits.ensures ∙ c.in-Some.is))
 
-pub returns-in-NoNumber : goal.returns-in-NoNumber
-returns-in-NoNumber c =
-    let a = c.args in
-    let lt : a.from < a.to = omega (arith, c.if-from-to.false) in
-    sym (ap (with_sign a.minus) (number_part a.line.now a.from a.to lt (search rules) ∙ sym c.read_digits.ensures ∙ c.in-NoNumber.is))
+pub returns-in-None : goal.returns-in-None
+returns-in-None c =
+    sym (ap (with_sign c.args.minus) (number_part c.args.s.now (search rules) ∙ sym c.read_digits.ensures ∙ c.in-None.is))

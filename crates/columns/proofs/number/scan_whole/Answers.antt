@@ -1,20 +1,34 @@
-use mathlib.Core.Path.{sym, ◌∙◌}
-use native.Mathlib.Omega.{arith}
 use borrow.Author.Rules.{rules}
-use Rattle.columns.proofs.laws.Number.{scan_none, scan_minus, scan_plain}
+use native.Mathlib.Omega.{arith}
+use mathlib.Core.Path.{◌≡◌, sym, ap, ◌∙◌}
+use mathlib.Core.List.{◌∷◌}
+use lib.ListN.{length}
+use Rattle.columns.specs.Number.{scan}
+use Rattle.columns.proofs.laws.Bytes.{skip_short}
+use Rattle.columns.proofs.laws.Number.{signed_none, signed_minus, signed_plain}
 use Rattle.columns.proofs.number.scan_whole.Goals as goal
 
-pub returns-then-start-to : goal.returns-then-start-to
-returns-then-start-to c =
-    let a = c.args in
-    sym (scan_none a.line.now a.from _ _ c.skip_blanks-start.ensures.1.1 c.if-start-to.true)
+pub scan_number-requires : goal.scan_number-requires
+scan_number-requires c =
+    let e : c.trim-rest.result.now ≡ c.in-Some-eq45-default.field-0-0.now ∷ c.in-Some-eq45-default.digits.now = search rules in
+    omega (arith, skip_short 32 c.args.s.now, ap length c.trim-rest.ensures, ap length e)
 
-pub returns-then-line-start-eq45 : goal.returns-then-line-start-eq45
-returns-then-line-start-eq45 c =
-    let a = c.args in
-    c.scan_number.ensures ∙ sym (scan_minus a.line.now a.from c.skip_blanks-start.result a.to c.skip_blanks-start.ensures.1.1 (omega arith) (search rules) c.if-line-start-eq45.true)
+pub scan_number-requires-in-Some : goal.scan_number-requires-in-Some
+scan_number-requires-in-Some c = omega (arith, skip_short 32 c.args.s.now, ap length c.trim-rest.ensures, c.requires)
 
-pub returns : goal.returns
-returns c =
-    let a = c.args in
-    c.scan_number-2.ensures ∙ sym (scan_plain a.line.now a.from c.skip_blanks-start.result a.to c.skip_blanks-start.ensures.1.1 (omega arith) (search rules) c.if-line-start-eq45.false)
+pub returns-in-None : goal.returns-in-None
+unfolding scan
+returns-in-None c =
+    sym (signed_none _ (sym (ap length c.trim-rest.ensures) ∙ c.in-None.ensures.cases))
+
+pub returns-in-Some-eq45-default : goal.returns-in-Some-eq45-default
+unfolding scan
+returns-in-Some-eq45-default c =
+    let e : c.trim-rest.result.now ≡ c.in-Some-eq45-default.field-0-0.now ∷ c.in-Some-eq45-default.digits.now = search rules in
+    c.scan_number.ensures ∙ sym (signed_minus _ _ _ (sym c.trim-rest.ensures ∙ e) c.in-Some-eq45-default.field-0-0-test)
+
+pub returns-in-Some : goal.returns-in-Some
+unfolding scan
+returns-in-Some c =
+    let e : c.trim-rest.result.now ≡ c.in-Some.field-0.0.now ∷ c.in-Some.field-0.1.now = search rules in
+    rw c.trim-rest.ensures at c.scan_number-in-Some.ensures ∙ sym (signed_plain _ _ _ (sym c.trim-rest.ensures ∙ e) (search rules))

@@ -1,25 +1,15 @@
 use borrow.Author.Rules.{rules}
-use Prim.Native.Nat.{◌-◌}
-use lib.ListN.{length}
-use Rattle.columns.proofs.laws.Row.{Alike, alike_end, alike_more, alike_none, alike_other, alike_start}
+use mathlib.Core.Path.{◌≡◌}
+use mathlib.Core.List.{◌∷◌}
+use Rattle.columns.specs.Row.{alike}
+use Rattle.columns.proofs.laws.Row.{alike_none}
 use Rattle.columns.proofs.row.all_alike.Goals as goal
 
-pub returns-then-flags-eq0 : goal.returns-then-flags-eq0
-returns-then-flags-eq0 c =
-    alike_none c.args.flags.now c.if-flags-eq0.true
+pub returns-in-None : goal.returns-in-None
+returns-in-None c = alike_none c.args.flags.now c.in-None.ensures.cases
 
-pub loop-i-init : goal.loop-i-init
-loop-i-init c =
-    alike_start c.args.flags.now c.if-flags-eq0.false
-
-pub returns-then-flags-i : goal.returns-then-flags-i
-returns-then-flags-i c =
-    alike_other c.args.flags.now _ c.loop-i.i c.loop-i.invariant c.loop-i-test.true c.if-flags-i.true
-
-pub loop-i-preserved : goal.loop-i-preserved
-loop-i-preserved c =
-    alike_more c.args.flags.now _ c.loop-i.i c.loop-i.invariant c.loop-i-test.true c.if-flags-i.false
-
-pub returns : goal.returns
-returns c =
-    alike_end c.args.flags.now _ c.loop-i.i c.loop-i.invariant c.loop-i-test.false
+pub returns-in-Some : goal.returns-in-Some
+unfolding alike
+returns-in-Some c =
+    let e : c.args.flags.now ≡ c.in-Some.first.now ∷ c.in-Some.rest.now = search rules in
+    rw e c.all_same.ensures

@@ -1,14 +1,8 @@
-use Prim.Native.Nat.{◌≤◌, ◌-◌, ◌+◌}
-use Rattle.columns.specs.Table.{columns_of}
+use lib.ListN.{drop}
+use Rattle.columns.specs.Table.{columns_in, columns_of}
 use Rattle.columns.proofs.laws.Row.{Testing}
 use Rattle.columns.proofs.row.is_whole.Given as goal
 
-abbrev pub invariant-loop-i : goal.invariant-loop-i
-invariant-loop-i l =
-    (l.first ≤ l.i)
-    × (l.i ≤ l.first + l.n)
-    × Testing (columns_of l.rows l.ranges l.letters l.first l.n) l.flags (columns_of l.rows l.ranges l.letters l.i (l.first + l.n - l.i)) l.k
-
-abbrev pub decreases-loop-i : goal.decreases-loop-i
-decreases-loop-i l =
-    l.first + l.n - l.i
+abbrev pub invariant-loop-row : goal.invariant-loop-row
+invariant-loop-row l =
+    Testing (columns_in l.layout) l.flags (columns_of (drop l.row-index l.layout.rows.now) l.layout.ranges.now l.layout.letters.now) l.k

@@ -1,5 +1,5 @@
-use borrow.Author.Rules.{rules}
 use native.Mathlib.Omega.{arith}
+use borrow.Author.Tests.{not-true, not-false}
 use lib.ListN.{length}
 use Rattle.columns.specs.Answer.{bad_form}
 use Rattle.columns.proofs.laws.Row.{part_line, whole_line}
@@ -8,15 +8,14 @@ use Rattle.columns.proofs.laws.Answers.{wrote_as, wrote_refused}
 use Rattle.columns.proofs.row.write_row.Goals as goal
 
 pub is_whole-requires : goal.is_whole-requires
-is_whole-requires c =
-    (search rules, omega (arith, c.requires.1.1.numbers))
+is_whole-requires c = omega (arith, c.requires.1.numbers)
 
-pub returns-then-is_whole : goal.returns-then-is_whole
-returns-then-is_whole c =
+pub returns-then-not-is_whole : goal.returns-then-not-is_whole
+returns-then-not-is_whole c =
     let a = c.args in
-    wrote_as _ a.out.now _ _ _ (whole_line _ a.flags.now (slots_of a.flags.now a.values.now) a.text.now _ c.is_whole.ensures (length a.out.now) c.if-is_whole.true) c.write_columns.ensures
+    rw c.at.ensures (wrote_refused _ a.out.now bad_form 0 (part_line _ a.flags.now (slots_of a.flags.now a.values.now) a.text.now _ c.is_whole.ensures (length a.out.now) (not-true _ c.if-not-is_whole.true-raw)))
 
 pub returns : goal.returns
 returns c =
     let a = c.args in
-    wrote_refused _ a.out.now bad_form 0 (part_line _ a.flags.now (slots_of a.flags.now a.values.now) a.text.now _ c.is_whole.ensures (length a.out.now) c.if-is_whole.false)
+    wrote_as _ a.out.now _ _ _ (whole_line _ a.flags.now (slots_of a.flags.now a.values.now) a.text.now _ c.is_whole.ensures (length a.out.now) (not-false _ c.if-not-is_whole.false-raw)) c.write_columns.ensures

@@ -23,17 +23,19 @@ pub returns-then-not-holds_number : goal.returns-then-not-holds_number
 returns-then-not-holds_number c =
     let a = c.args in
     let z = to_z-of_z w64 a.v (search rules) in
-    wrote_refused _ a.out.now too_wide (a.at + 1)
+    rw c.at.ensures
+    (wrote_refused _ a.out.now too_wide (a.at + 1)
     (put_wide a.form a.required (λ x. a.fits) a.at a.there a.v c.if-there-eq0.false
-    (sym (rw z at c.holds_number.ensures) ∙ not-true _ c.if-not-holds_number.true-raw))
+    (sym (rw z at c.holds_number.ensures) ∙ not-true _ c.if-not-holds_number.true-raw)))
 
 pub returns-then-not-fits : goal.returns-then-not-fits
 returns-then-not-fits c =
     let a = c.args in
     let z = to_z-of_z w64 a.v (search rules) in
-    wrote_refused _ a.out.now out_of_range (a.at + 1)
+    rw c.at-then-not-fits.ensures
+    (wrote_refused _ a.out.now out_of_range (a.at + 1)
     (put_out a.form a.required (λ x. a.fits) a.at a.there a.v c.if-there-eq0.false
-    (sym (rw z at c.holds_number.ensures) ∙ not-false _ c.if-not-holds_number.false-raw) (not-true _ c.if-not-fits.true-raw))
+    (sym (rw z at c.holds_number.ensures) ∙ not-false _ c.if-not-holds_number.false-raw) (not-true _ c.if-not-fits.true-raw)))
 
 pub write_number-requires : goal.write_number-requires
 write_number-requires c =

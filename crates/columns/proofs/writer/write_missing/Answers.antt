@@ -7,7 +7,7 @@ use Rattle.columns.proofs.writer.write_missing.Goals as goal
 pub returns-then-required : goal.returns-then-required
 returns-then-required c =
     let a = c.args in
-    wrote_refused _ a.out.now required_blank (a.at + 1) (rw c.if-required.true)
+    rw c.at.ensures (wrote_refused _ a.out.now required_blank (a.at + 1) (rw c.if-required.true))
 
 pub returns : goal.returns
 returns c =

@@ -1,21 +1,14 @@
-use mathlib.Core.Path.{sym, ◌∙◌}
 use native.Mathlib.Omega.{arith}
-use lib.ListN.{length-set}
-use borrow.Author.Rules.{rules}
-use Rattle.columns.proofs.laws.Written.{back_start, back_turn, back_end}
+use mathlib.Core.Path.{sym, ◌∙◌}
+use Rattle.columns.proofs.laws.Written.{back_turn, back_end}
 use Rattle.columns.proofs.written.write_back.Goals as goal
 
-pub loop-i-init : goal.loop-i-init
-loop-i-init c =
-    (search rules, search rules, back_start c.args.out.now c.args.pen)
-
 pub loop-i-preserved : goal.loop-i-preserved
-loop-i-preserved c = (
-  simp length-set (omega arith),
-  simp length-set (omega arith),
-  c.loop-i.invariant.2 ∙ back_turn c.loop-i.out c.loop-i.i c.loop-i.p _ _ (search rules) (search rules) c.byte.ensures c.next-p.ensures,
-)
+loop-i-preserved c =
+    let l = c.loop-i in
+    l.invariant ∙ back_turn l.out l.i l.p _ _ c.loop-i-test.true (omega (arith, l.auto.out, l.auto.i)) c.byte.ensures c.next-p.ensures
 
 pub returns : goal.returns
 returns c =
-    sym (c.loop-i.invariant.2 ∙ back_end c.loop-i.out c.loop-i.i c.loop-i.p (search rules))
+    let l = c.loop-i in
+    sym (l.invariant ∙ back_end l.out l.i l.p c.loop-i-test.false)

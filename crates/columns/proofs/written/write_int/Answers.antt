@@ -18,8 +18,8 @@ returns-then-v-lt0 c =
     let n : c.magnitude_of-n.result ≡ nat_abs a.v = c.magnitude_of-n.ensures ∙ ap nat_abs (to_z-of_z w64 a.v (search rules)) in
     minus_put a.out.now _ _ (search rules) c.write_digits.ensures ∙ rw n (int_neg (length a.out.now) a.v (search rules) c.if-v-lt0.true).1
 
-pub returns : goal.returns
-returns c =
+pub returns-else-v-lt0 : goal.returns-else-v-lt0
+returns-else-v-lt0 c =
     let a = c.args in
     let n : c.magnitude_of-n.result ≡ nat_abs a.v = c.magnitude_of-n.ensures ∙ ap nat_abs (to_z-of_z w64 a.v (search rules)) in
-    c.write_digits-2.ensures ∙ rw n (int_pos (length a.out.now) a.v (search rules) c.if-v-lt0.false).1
+    c.write_digits-else-v-lt0.ensures ∙ rw n (int_pos (length a.out.now) a.v (search rules) c.if-v-lt0.false).1

@@ -1,37 +1,22 @@
+use Rattle.std.specs.Prelude.{Err}
 use Rattle.formats.proofs.laws.Block.{block_long, block_none, first_other, first_lines}
-use Rattle.formats.proofs.laws.BlockReader.{found_at, end_at, starts_in, ends_in, next_after}
-use mathlib.Core.Path.{sym, ◌∙◌}
+use Rattle.formats.proofs.laws.BlockReader.{found_at, end_at}
+use mathlib.Core.Path.{sym, ap, ◌∙◌}
 use Rattle.formats.proofs.block.read_block.Goals as goal
+use Rattle.formats.proofs.block.read_block.Goals.{in_default-via-in-Some+else-is_header, in_default-via-in_default}
 
 pub returns-then-block-gt65536 : goal.returns-then-block-gt65536
 returns-then-block-gt65536 c =
-    sym (block_long _ _ c.args.block.now c.if-block-gt65536.true)
+    ap Err (rw c.at.ensures at c.on_line.ensures) ∙ sym (block_long _ _ c.args.block.now c.if-block-gt65536.true)
 
-pub slice_bounds-is_header-count : goal.slice_bounds-is_header-count
-slice_bounds-is_header-count c =
-    starts_in (found_at _ _ (sym c.in-Found.is ∙ c.line_from-first.ensures))
+pub returns-in-Some : goal.returns-in-Some
+returns-in-Some c =
+    c.read_lines.ensures ∙ first_lines _ _ _ c.if-block-gt65536.false (found_at _ _ (sym c.in-Some.is ∙ c.line_from.ensures.found)) c.is_header.ensures c.if-is_header.true
 
-pub slice_bounds-is_header-start : goal.slice_bounds-is_header-start
-slice_bounds-is_header-start c =
-    starts_in (found_at _ _ (sym c.in-Found.is ∙ c.line_from-first.ensures))
-
-pub slice_bounds-is_header-end : goal.slice_bounds-is_header-end
-slice_bounds-is_header-end c =
-    ends_in (found_at _ _ (sym c.in-Found.is ∙ c.line_from-first.ensures))
-
-pub read_lines-requires : goal.read_lines-requires
-read_lines-requires c =
-    ((next_after (found_at _ _ (sym c.in-Found.is ∙ c.line_from-first.ensures))).1, c.if-block-gt65536.false)
-
-pub returns-then-is_header : goal.returns-then-is_header
-returns-then-is_header c =
-    c.read_lines.ensures ∙ first_lines _ _ _ c.if-block-gt65536.false (found_at _ _ (sym c.in-Found.is ∙ c.line_from-first.ensures)) c.is_header.ensures c.if-is_header.true
-
-pub returns-in-End : goal.returns-in-End
-returns-in-End c =
-    let b = c.args.block.now in
-    sym (block_none _ _ b c.if-block-gt65536.false (end_at b 0 (sym c.in-End.is ∙ c.line_from-first.ensures)))
-
-pub returns-else-is_header : goal.returns-else-is_header
-returns-else-is_header c =
-    first_other _ _ _ c.if-block-gt65536.false (found_at _ _ (sym c.in-Found.is ∙ c.line_from-first.ensures)) c.is_header.ensures c.if-is_header.false
+pub returns-in_default : goal.returns-in_default
+returns-in_default c =
+    ap Err (rw c.at-in_default.ensures at c.on_line-in_default.ensures)
+    ∙ elim c.in_default.branch [
+      | in_default-via-in-Some+else-is_header w ↦ first_other _ _ _ c.if-block-gt65536.false (found_at _ _ (sym w.in-Some.is ∙ c.line_from.ensures.found)) w.is_header.ensures w.if-is_header.false
+      | in_default-via-in_default w ↦ let b = c.args.block.now in sym (block_none _ _ b c.if-block-gt65536.false (end_at b 0 (sym w.in_default.is ∙ c.line_from.ensures.found)))
+    ]

@@ -7,7 +7,3 @@ use Rattle.formats.proofs.block_line.trimmed.Given as goal
 abbrev pub invariant-loop-i : goal.invariant-loop-i
 invariant-loop-i l =
     (l.i ≤ length l.line) × (trim_end l.line ≡ trim_end (take l.i l.line))
-
-abbrev pub decreases-loop-i : goal.decreases-loop-i
-decreases-loop-i l =
-    l.i

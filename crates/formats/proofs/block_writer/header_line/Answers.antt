@@ -6,7 +6,7 @@ use Rattle.formats.proofs.block_writer.header_line.Goals as goal
 pub returns-then-part-n : goal.returns-then-part-n
 returns-then-part-n c =
     let h = c.put_header-n.ensures in
-    header_refused (header_of _) (header_fine _).some _ c.put_header-n.result h.size c.if-part-n.true
+    rw c.at.ensures (header_refused (header_of _) (header_fine _).some _ c.put_header-n.result h.size c.if-part-n.true)
 
 pub returns : goal.returns
 returns c =

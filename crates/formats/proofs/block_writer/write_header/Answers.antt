@@ -1,19 +1,12 @@
 use Rattle.formats.specs.BlockWriting.{write_header, header_call}
-use Rattle.formats.proofs.laws.BlockWriter.{header_past, call_fits, call_replied}
+use Rattle.formats.proofs.laws.BlockWriter.{header_past, call_replied}
 use Rattle.formats.specs.Format.{header_of}
 use Rattle.formats.proofs.laws.Format.{header_fine}
-use native.Mathlib.Omega.{arith}
 use Rattle.formats.proofs.block_writer.write_header.Goals as goal
 
 pub returns-then-out-at : goal.returns-then-out-at
 returns-then-out-at c =
-    header_past _ (header_fine c.args.kind).some c.args.at c.args.out.now c.if-out-at.true
-
-pub from_place-requires : goal.from_place-requires
-from_place-requires c =
-    let a = c.args in
-    let w = c.header_line in
-    omega (arith, call_fits (write_header (header_of a.kind)) a.at a.out.now c.if-out-at.false w.result _ w.ensures w.auto.part)
+    rw c.at.ensures (header_past _ (header_fine c.args.kind).some c.args.at c.args.out.now c.if-out-at.true)
 
 pub returns : goal.returns
 unfolding header_call

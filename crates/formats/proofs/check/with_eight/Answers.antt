@@ -2,25 +2,13 @@ use borrow.Author.Rules.{rules}
 use native.Mathlib.Omega.{arith}
 use mathlib.Core.Path.{◌≡◌, sym, ◌∙◌}
 use Prim.Native.Nat.{◌+◌, ◌-◌, ◌*◌, ◌/◌, ◌%◌, ◌≤◌, ◌<◌}
-use lib.Bits.{and_mask, mask_lt}
-use Rattle.formats.proofs.laws.CheckEight.{weigh, weigh_more, weigh_none, weigh_most, ones, ones_below, eight_at_once}
+use lib.Bits.{and_mask}
+use Rattle.formats.proofs.laws.CheckEight.{weigh, weigh_more, weigh_none, weigh_most, ones, eight_at_once}
 use Rattle.formats.proofs.check.with_eight.Goals as goal
 
 pub loop-k-init : goal.loop-k-init
 loop-k-init c =
     (search rules, search rules, sym (weigh_none c.args.part.now 8 (search rules)))
-
-pub overflow_cast-ahead : goal.overflow_cast-ahead
-overflow_cast-ahead c =
-    omega (arith, c.shared_slice_known-in-loop-k-1.given (c.loop-k.k - 1))
-
-pub overflow_add-ahead : goal.overflow_add-ahead
-overflow_add-ahead c =
-    omega (arith, c.shared_slice_known-in-loop-k-1.given (c.loop-k.k - 1))
-
-pub overflow_mul-ahead : goal.overflow_mul-ahead
-overflow_mul-ahead c =
-    omega (arith, c.shared_slice_known-in-loop-k-1.given (c.loop-k.k - 1))
 
 pub loop-k-preserved : goal.loop-k-preserved
 loop-k-preserved c =
@@ -28,18 +16,6 @@ loop-k-preserved c =
     let e : l.k - 1 + 1 ≡ l.k = omega arith in
     let w = rw (e, ← l.invariant.2) at (weigh_more c.args.part.now (l.k - 1) (omega arith)) in
     (search rules, omega (arith, w, weigh_most c.args.part.now (l.k - 1) c.requires (λ i. (c.shared_slice_known-in-loop-k-1.given i).fits)), sym w)
-
-pub overflow_mul-ones : goal.overflow_mul-ones
-overflow_mul-ones c =
-    omega (arith, ones_below (c.args.sum + c.loop-k.ahead) (omega arith))
-
-pub overflow_add-sum : goal.overflow_add-sum
-overflow_add-sum c =
-    omega (arith, ones_below (c.args.sum + c.loop-k.ahead) (omega arith))
-
-pub overflow_cast-result : goal.overflow_cast-result
-overflow_cast-result c =
-    record { fits = mask_lt ((c.args.sum + c.loop-k.ahead) / 256 + (c.args.sum + c.loop-k.ahead) * 256 % 4294967296) 16 }
 
 pub returns-then-sum-ones-lt65791 : goal.returns-then-sum-ones-lt65791
 returns-then-sum-ones-lt65791 c =
@@ -51,7 +27,3 @@ returns-then-sum-ones-lt65791 c =
     let v = c.args.sum + l.ahead in
     let m : v * 256 % 4294967296 ≡ v * 256 = omega arith in
     and_mask (v / 256 + v * 256 % 4294967296) 16 ∙ rw (m, e) (sym (eight_at_once c.args.part.now c.args.sum c.requires (λ i. (c.shared_slice_known-1.given i).fits) (omega arith) (rw e at o)))
-
-pub returns : goal.returns
-returns c =
-    c.with_rest.ensures

@@ -7,7 +7,3 @@ use Rattle.formats.proofs.check.with_eight.Given as goal
 abbrev pub invariant-loop-k : goal.invariant-loop-k
 invariant-loop-k l =
     (l.k ≤ 8) × (l.ahead ≤ 130050) × (l.ahead ≡ weigh (drop l.k l.part))
-
-abbrev pub decreases-loop-k : goal.decreases-loop-k
-decreases-loop-k l =
-    l.k

@@ -14,7 +14,7 @@ pub returns-then-len-gt67 : goal.returns-then-len-gt67
 unfolding write_message
 returns-then-len-gt67 c =
     let a = c.args in
-    wrote_refused _ _ wrong_length 0 (put_long 13 80 13 _ true _ (omega (arith, c.if-len-gt67.true, c.requires, length-append a.names.now a.text.now)))
+    rw c.at.ensures (wrote_refused _ _ wrong_length 0 (put_long 13 80 13 _ true _ (omega (arith, c.if-len-gt67.true, c.requires, length-append a.names.now a.text.now))))
 
 pub returns : goal.returns
 unfolding write_message

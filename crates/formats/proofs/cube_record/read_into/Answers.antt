@@ -1,35 +1,37 @@
 use mathlib.Core.Path.{sym, ◌∙◌}
+use Rattle.std.proofs.lemmas.Result.{err_from_is_err_and}
 use Rattle.columns.specs.Answer.{too_short}
 use Rattle.formats.proofs.laws.CubeRecord.{replied_refused, into_short, read_refused, read_event_lem, link_says, read_link_lem, delete_says, read_delete_lem}
 use Rattle.formats.proofs.cube_record.read_into.Goals as goal
 
 pub returns-then-out-lt-RECORD : goal.returns-then-out-lt-RECORD
 returns-then-out-lt-RECORD c =
-    replied_refused _ _ too_short 0 (into_short _ _ c.if-out-lt-RECORD.true)
+    rw c.at.ensures (replied_refused _ _ too_short 0 (into_short _ _ c.if-out-lt-RECORD.true))
 
-pub returns-then-kind-eq-EVENT : goal.returns-then-kind-eq-EVENT
-returns-then-kind-eq-EVENT c =
+pub returns-in_err-read_line : goal.returns-in_err-read_line
+returns-in_err-read_line c =
+    let p = err_from_is_err_and c.from_residual.result c.from_residual.ensures.1 in
+    rw (p.1, p.2) (read_refused _ _ c.if-out-lt-RECORD.false _ (sym c.read_line.ensures.answer ∙ c.in_err-read_line.was))
+
+pub link_bytes-requires : goal.link_bytes-requires
+link_bytes-requires c =
+    let w = link_says _ c.args.out.now c.if-out-lt-RECORD.false _ _ _ (sym c.read_line.ensures.answer ∙ rw c.in-Link.is at c.in_ok-read_line.was) in
+    (w.0, w.1.0)
+
+pub delete_bytes-requires : goal.delete_bytes-requires
+delete_bytes-requires c =
+    let w = delete_says _ c.args.out.now c.if-out-lt-RECORD.false _ (sym c.read_line.ensures.answer ∙ rw c.in-Delete.is at c.in_ok-read_line.was) in
+    (w.0, w.1.0)
+
+pub returns-in-Event : goal.returns-in-Event
+returns-in-Event c =
     let r = c.read_line.ensures in
-    read_event_lem _ _ c.if-out-lt-RECORD.false _ _ _ _ (sym r.answer ∙ c.in-There.is) r c.if-kind-eq-EVENT.true c.put_event.ensures
+    read_event_lem _ _ c.if-out-lt-RECORD.false (sym r.answer ∙ rw c.in-Event.is at c.in_ok-read_line.was) r c.put_event.ensures
 
-pub link_bytes-bytes-requires : goal.link_bytes-bytes-requires
-link_bytes-bytes-requires c =
-    let w = link_says _ c.args.out.now c.if-out-lt-RECORD.false _ _ _ _ (sym c.read_line.ensures.answer ∙ c.in-There.is) c.if-kind-eq-LINK.true in
-    (w.0, w.1.0)
+pub returns-in-Link : goal.returns-in-Link
+returns-in-Link c =
+    read_link_lem _ _ c.if-out-lt-RECORD.false _ _ _ (sym c.read_line.ensures.answer ∙ rw c.in-Link.is at c.in_ok-read_line.was) c.link_bytes.ensures c.copy.ensures
 
-pub returns-then-kind-eq-LINK : goal.returns-then-kind-eq-LINK
-returns-then-kind-eq-LINK c =
-    read_link_lem _ _ c.if-out-lt-RECORD.false _ _ _ _ (sym c.read_line.ensures.answer ∙ c.in-There.is) c.if-kind-eq-LINK.true c.link_bytes-bytes.ensures c.copy.ensures
-
-pub delete_bytes-bytes-requires : goal.delete_bytes-bytes-requires
-delete_bytes-bytes-requires c =
-    let w = delete_says _ c.args.out.now c.if-out-lt-RECORD.false _ _ _ _ (sym c.read_line.ensures.answer ∙ c.in-There.is) c.if-kind-eq-EVENT.false c.if-kind-eq-LINK.false in
-    (w.0, w.1.0)
-
-pub returns-in-Refused : goal.returns-in-Refused
-returns-in-Refused c =
-    read_refused _ _ c.if-out-lt-RECORD.false _ _ (sym c.read_line.ensures.answer ∙ c.in-Refused.is)
-
-pub returns-else-kind-eq-LINK : goal.returns-else-kind-eq-LINK
-returns-else-kind-eq-LINK c =
-    read_delete_lem _ _ c.if-out-lt-RECORD.false _ _ _ _ (sym c.read_line.ensures.answer ∙ c.in-There.is) c.if-kind-eq-EVENT.false c.if-kind-eq-LINK.false c.delete_bytes-bytes.ensures c.copy-in-There.ensures
+pub returns-in-Delete : goal.returns-in-Delete
+returns-in-Delete c =
+    read_delete_lem _ _ c.if-out-lt-RECORD.false _ (sym c.read_line.ensures.answer ∙ rw c.in-Delete.is at c.in_ok-read_line.was) c.delete_bytes.ensures c.copy-in-Delete.ensures

@@ -1,6 +1,7 @@
 use Rattle.formats.proofs.laws.Format.{header_put, phase_header_lem, arrival_header_lem}
 use Rattle.formats.specs.Words.{bytes_of}
 use Rattle.formats.specs.Header.{phase_header, arrival_header, spaced_from}
+use borrow.Author.Rules.{rules}
 use Rattle.formats.proofs.header.put_header.Goals as goal
 
 pub returns-in-5 : goal.returns-in-5
@@ -11,4 +12,4 @@ returns-in-5 c =
 pub returns-in_default : goal.returns-in_default
 unfolding phase_header spaced_from bytes_of
 returns-in_default c =
-    let k = c.args.kind in header_put k phase_header (phase_header_lem k c.in_default.in_default-own.rest.1) _ _ _ c.put_words-in_default.ensures.0 c.put_words-in_default.ensures.1
+    let k = c.args.kind in header_put k phase_header (phase_header_lem k (search rules)) _ _ _ c.put_words-in_default.ensures.0 c.put_words-in_default.ensures.1

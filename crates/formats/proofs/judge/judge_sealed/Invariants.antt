@@ -1,6 +1,6 @@
 use mathlib.Core.Path.{◌≡◌}
 use mathlib.Core.List.{[]}
-use Prim.Native.Nat.{◌≤◌, ◌-◌, ◌*◌}
+use Prim.Native.Nat.{◌≤◌, ◌*◌}
 use lib.ListN.{length, drop}
 use Rattle.columns.specs.Table.{columns_of}
 use Rattle.columns.proofs.laws.Judge.{Left}
@@ -11,8 +11,4 @@ abbrev pub invariant-loop-i : goal.invariant-loop-i
 invariant-loop-i l =
     (l.i ≤ length l.rows)
     × (check_sum l.sum (drop (3 * l.i) l.head) ≡ check_sum 0 l.head)
-    × Left (columns_of l.rows l.ranges [] 0 (length l.rows)) l.start l.line (columns_of l.rows l.ranges [] l.i (length l.rows - l.i)) l.at
-
-abbrev pub decreases-loop-i : goal.decreases-loop-i
-decreases-loop-i l =
-    length l.rows - l.i
+    × Left (columns_of l.rows l.ranges []) l.start l.line (columns_of (drop l.i l.rows) l.ranges []) l.at

@@ -1,14 +1,16 @@
-use Rattle.formats.proofs.laws.Lettered.{lead_none, lead_other, lead_kind}
+use mathlib.Core.Path.{sym, ap, ◌∙◌}
+use Rattle.formats.specs.RunSteps.{as_kind}
+use Rattle.formats.proofs.laws.Lettered.{kind_answer, lead_none, lead_found}
 use Rattle.formats.proofs.lettered.lead_of.Goals as goal
 
 pub returns-then-line-eq0 : goal.returns-then-line-eq0
 returns-then-line-eq0 c =
-    lead_none _ _ c.if-line-eq0.true
+    rw c.at.ensures (lead_none _ _ c.if-line-eq0.true)
 
-pub returns-then-letters-i : goal.returns-then-letters-i
-returns-then-letters-i c =
-    lead_other _ _ c.if-line-eq0.false _ c.scan_end-i.ensures.0 c.if-letters-i.true
+pub returns-in-None : goal.returns-in-None
+returns-in-None c =
+    rw c.at-in-None.ensures (ap as_kind (ap kind_answer (sym c.in-None.is) ∙ lead_found _ _ c.if-line-eq0.false c.with_letter.ensures))
 
-pub returns : goal.returns
-returns c =
-    lead_kind _ _ c.if-line-eq0.false _ c.scan_end-i.ensures.0 c.if-letters-i.false
+pub returns-in-Some : goal.returns-in-Some
+returns-in-Some c =
+    ap as_kind (ap kind_answer (sym c.in-Some.is) ∙ lead_found _ _ c.if-line-eq0.false c.with_letter.ensures)

@@ -4,11 +4,11 @@ use Rattle.formats.specs.Lines.{end_from}
 use Rattle.formats.proofs.laws.Link.{word_none, word_is}
 use Rattle.formats.proofs.link.is_word.Goals as goal
 
-pub returns-then-s-eq0 : goal.returns-then-s-eq0
-returns-then-s-eq0 c =
-    word_none c.args.s.now c.if-s-eq0.true
-
-pub returns : goal.returns
+pub returns-then-s-ne0 : goal.returns-then-s-ne0
 unfolding end_from
-returns c =
-    word_is c.args.s.now c.if-s-eq0.false _ (c.scan_end.ensures.0 ∙ omega arith)
+returns-then-s-ne0 c =
+    word_is c.args.s.now c.if-s-ne0.true _ (c.scan_end.ensures.0 ∙ omega arith)
+
+pub returns-else-s-ne0 : goal.returns-else-s-ne0
+returns-else-s-ne0 c =
+    rw c.if-s-ne0.false (word_none _ c.if-s-ne0.false)

@@ -7,7 +7,7 @@ unfolding says_delete
 returns-then-same c =
     rw (← c.same.ensures, c.if-same.true)
 
-pub returns : goal.returns
+pub returns-else-same : goal.returns-else-same
 unfolding says_delete
-returns c =
-    rw (← c.same.ensures, c.if-same.false) c.same-2.ensures
+returns-else-same c =
+    rw (← c.same.ensures, c.if-same.false) c.same-else-same.ensures

@@ -11,7 +11,7 @@ pub returns-then-size-gt238 : goal.returns-then-size-gt238
 unfolding write_message
 returns-then-size-gt238 c =
     let a = c.args in
-    wrote_refused _ _ wrong_length 0 (put_long 20 255 14 _ _ _ (omega (arith, c.if-size-gt238.true, c.parts_size-size.ensures, link_size a.names.now a.kind.now a.address.now a.text.now c.requires)))
+    rw c.at.ensures (wrote_refused _ _ wrong_length 0 (put_long 20 255 14 _ _ _ (omega (arith, c.if-size-gt238.true, c.parts_size-size.ensures, link_size a.names.now a.kind.now a.address.now a.text.now c.requires))))
 
 pub returns : goal.returns
 unfolding write_message

@@ -17,10 +17,6 @@ unfolding slots_in
 loop-i-init c =
     (search rules, search rules, search rules, flags_none _, values_none _)
 
-pub loop-i-smaller : goal.loop-i-smaller
-loop-i-smaller c =
-    simp length-set (omega arith)
-
 pub loop-i-preserved : goal.loop-i-preserved
 loop-i-preserved c =
     let l = c.loop-i in

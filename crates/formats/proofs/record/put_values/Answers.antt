@@ -3,7 +3,7 @@ use mir.ValLaws.{to_z-of_z}
 use lib.IntN.{pos}
 use Rattle.formats.specs.Record.{pattern_of, words_by}
 use Prim.Native.Nat.{◌*◌}
-use Rattle.formats.proofs.laws.Record.{values_turn, values_end}
+use Rattle.formats.proofs.laws.Record.{values_turn}
 use borrow.Author.Rules.{rules}
 use mathlib.Core.Path.{refl, ap, ◌∙◌}
 use lib.ListN.{get_or}
@@ -20,8 +20,3 @@ loop-i-preserved c =
     let a = c.args in
     let z = to_z-of_z w64 (get_or a.values.now l.i (pos 0)) (search rules) in
     (search rules, search rules, values_turn a.values.now a.out.now l.out _ l.i (8 * l.i) _ c.loop-i-test.true c.requires refl l.invariant.2 (c.pattern_of.ensures ∙ ap pattern_of z) c.write_word.ensures)
-
-pub returns : goal.returns
-returns c =
-    let l = c.loop-i in
-    values_end _ _ l.out l.i (search rules) c.loop-i-test.false l.invariant.2

@@ -1,25 +1,20 @@
-use borrow.Author.Tests.{lt-ltb, le-ltb}
-use mathlib.Core.Path.{refl, sym, ap, ◌∙◌}
-use Rattle.columns.specs.Answer.{barred_byte}
-use Rattle.columns.specs.Table.{flags_of, values_of}
-use Rattle.columns.specs.declared.Outcome.TheVariants as O
-use Rattle.columns.proofs.laws.Answers.{differs_is}
-use Rattle.formats.specs.Row.{read_row, row_part}
-use Rattle.formats.proofs.laws.Row.{row_read}
+use Rattle.std.proofs.lemmas.Result.{err_from_is_err_and}
+use native.Mathlib.Omega.{arith}
+use Rattle.formats.proofs.laws.Row.{made_unread, made_passed, row_read}
 use Rattle.formats.proofs.row.read_row.Goals as goal
 
-pub returns-then-width-line : goal.returns-then-width-line
-unfolding read_row row_part flags_of values_of
-returns-then-width-line c =
-    rw (lt-ltb _ _ (rw c.format_of-f.ensures.width at c.if-width-line.true)) (record { answer = refl; flags = refl; values = refl; chars = refl })
+pub returns-in_err-judge_made : goal.returns-in_err-judge_made
+returns-in_err-judge_made c =
+    let p = err_from_is_err_and c.from_residual.result c.from_residual.ensures.1 in
+    rw (p.1, p.2) (made_unread c.judge_made.ensures _ c.in_err-judge_made.was)
 
-pub returns-then-barred-ne0 : goal.returns-then-barred-ne0
-unfolding read_row row_part flags_of values_of
-returns-then-barred-ne0 c =
-    let e = c.first_barred-barred.ensures in
-    rw (le-ltb _ _ (rw c.format_of-f.ensures.width at c.if-width-line.false), differs_is _ 0 (λ q. c.if-barred-ne0.true (e ∙ q)))
-    (record { answer = ap (O.Refused barred_byte) e; flags = refl; values = refl; chars = refl })
+pub returns-in_err-read_cells : goal.returns-in_err-read_cells
+returns-in_err-read_cells c =
+    let p = err_from_is_err_and c.from_residual-in_err-read_cells.result c.from_residual-in_err-read_cells.ensures.1 in
+    let m = made_passed c.judge_made.ensures c.in_ok-judge_made.was in
+    rw (p.1, p.2) (row_read c.format_of-width.ensures _ (omega (arith, m.0, c.format_of-width.ensures.width)) m.1 c.copy.ensures (rw c.in_err-read_cells.was at c.read_cells.ensures))
 
 pub returns : goal.returns
 returns c =
-    row_read c.format_of-f.ensures _ c.if-width-line.false (sym c.first_barred-barred.ensures ∙ c.if-barred-ne0.false) c.copy.ensures c.read_cells.ensures
+    let m = made_passed c.judge_made.ensures c.in_ok-judge_made.was in
+    row_read c.format_of-width.ensures _ (omega (arith, m.0, c.format_of-width.ensures.width)) m.1 c.copy.ensures (rw c.in_ok-read_cells.was at c.read_cells.ensures)

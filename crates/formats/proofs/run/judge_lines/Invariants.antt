@@ -1,13 +1,13 @@
 use Prim.Native.Nat.{◌-◌}
 use lib.ListN.{length}
-use Rattle.formats.specs.Lettered.{kinds_at}
+use mathlib.Core.List.{◌∷◌}
 use Rattle.formats.proofs.laws.Run.{Running}
 use Rattle.formats.proofs.run.judge_lines.Given as goal
 
-abbrev pub invariant-loop-at : goal.invariant-loop-at
-invariant-loop-at l =
-    Running (kinds_at l.letters l.ranks l.afters l.first) l.run l.at l.line l.before l.tally
+abbrev pub invariant-loop-found : goal.invariant-loop-found
+invariant-loop-found l =
+    Running (l.kinds.opener ∷ l.kinds.others.now) l.run l.at l.line l.before l.tally
 
-abbrev pub decreases-loop-at : goal.decreases-loop-at
-decreases-loop-at l =
+abbrev pub decreases-loop-found : goal.decreases-loop-found
+decreases-loop-found l =
     length l.run - l.at

@@ -1,20 +1,20 @@
 use native.Mathlib.Omega.{arith}
-use mathlib.Core.Path.{refl}
-use Rattle.catalogue.proofs.laws.step.Link.{line_cut}
-use Rattle.take.proofs.laws.Links.{line_size, line_says, link_shown, link_put}
+use mathlib.Core.List.{[], ◌∷◌}
+use Rattle.take.proofs.laws.Text.{put_length}
+use Rattle.take.proofs.laws.Links.{line_says, link_shown, link_put}
 use Rattle.take.proofs.links.put_link.Goals as goal
 
-pub returns-then-is_delete : goal.returns-then-is_delete
-returns-then-is_delete c =
+pub returns-then-not-is_delete : goal.returns-then-not-is_delete
+returns-then-not-is_delete c =
     let a = c.args in
-    (link_shown a.out.now a.entry.now a.at (line_says a.entry.now refl c.is_delete.ensures c.if-is_delete.true), omega arith)
-
-pub returns : goal.returns
-returns c =
-    let e = c.args.entry.now in
-    let b = c.type_inv.entry 0 in
-    let p = c.put_bytes-next in
+    let l = c.line_of-line in
+    let p = c.put_bytes in
     let q = c.put_byte in (
-      link_put e (line_cut e refl) (line_says e refl c.is_delete.ensures c.if-is_delete.false) p.ensures q.ensures,
-      omega (arith, p.ensures.place, q.ensures.place, line_size e refl c.requires.0 (omega (arith, b)), b),
+      link_put a.entry.now a.out.now l.ensures.0 (line_says a.entry.now l.ensures.0 c.is_delete.ensures c.if-not-is_delete.true) p.ensures q.ensures,
+      omega (arith, put_length a.out.now l.result.now p.ensures, put_length p.new.self (10 ∷ []) q.ensures, l.ensures.1),
     )
+
+pub returns-else-not-is_delete : goal.returns-else-not-is_delete
+returns-else-not-is_delete c =
+    let a = c.args in
+    (link_shown a.out.now a.entry.now (line_says a.entry.now c.line_of-line.ensures.0 c.is_delete.ensures c.if-not-is_delete.false), omega arith)

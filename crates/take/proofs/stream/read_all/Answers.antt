@@ -3,27 +3,12 @@ use native.Mathlib.Omega.{arith}
 use lib.ListN.{take}
 use Rattle.take.proofs.stream.read_all.Goals as goal
 
-pub loop-reads-init : goal.loop-reads-init
-loop-reads-init g c =
-    let a = c.args in
-    (passed_none a.room.now a.line.now a.out.now a.first c.requires.0, omega (arith, c.requires.2))
+pub loop-init : goal.loop-init
+loop-init g c =
+    (passed_none c.args.intake.now, omega (arith, c.requires.1))
 
-pub returns-then-turn-eq0 : goal.returns-then-turn-eq0
-returns-then-turn-eq0 g c =
-    let t = c.read_next-turn in
-    let l = c.loop-reads in
-    (passed_more (take t.result.count t.new.chunk) l.invariant.0 t.ensures.0, omega (arith, t.ensures.1, l.invariant.1, c.loop-reads-test.true))
-
-pub returns-then-p : goal.returns-then-p
-returns-then-p g c =
-    let t = c.read_next-turn in
-    let l = c.loop-reads in
-    (passed_more (take t.result.count t.new.chunk) l.invariant.0 t.ensures.0, omega (arith, t.ensures.1, l.invariant.1, c.loop-reads-test.true))
-
-pub loop-reads-preserved : goal.loop-reads-preserved
-loop-reads-preserved g c =
-    let t = c.read_next-turn in
-    let l = c.loop-reads in (
-      passed_more (take t.result.count t.new.chunk) l.invariant.0 t.ensures.0,
-      omega (arith, t.ensures.1, l.invariant.1, c.loop-reads-test.true),
-    )
+pub loop-preserved : goal.loop-preserved
+loop-preserved g c =
+    let t = c.in_ok-take_chunk.ensures in
+    let l = c.loop in
+    (passed_more (take c.in-Ok.n c.read.new.buf) l.invariant.0 t.0, omega (arith, t.1, l.invariant.1, c.in-Ok.ensures.bound, c.read.auto.buf, c.loop.auto.chunk, c.requires.0))

@@ -1,4 +1,4 @@
-use Rattle.take.proofs.laws.Text.{decimal_few}
+use Rattle.take.proofs.laws.Text.{decimal_few, put_length}
 use Rattle.take.specs.Text.{decimal}
 use native.Mathlib.Omega.{arith}
 use Rattle.take.proofs.text.put_number.Goals as goal
@@ -6,4 +6,4 @@ use Rattle.take.proofs.text.put_number.Goals as goal
 pub returns : goal.returns
 unfolding decimal
 returns c =
-    (c.put_digits.ensures, omega (arith, c.put_digits.ensures.place, decimal_few c.args.n))
+    (c.put_digits.ensures, omega (arith, put_length c.args.out.now (decimal c.args.n) c.put_digits.ensures, decimal_few c.args.n))

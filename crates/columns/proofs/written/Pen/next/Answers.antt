@@ -1,9 +1,0 @@
-use Rattle.columns.proofs.written.Pen.next.Goals as goal
-
-pub returns-then-self : goal.returns-then-self
-returns-then-self c =
-    rw c.if-self.true
-
-pub returns : goal.returns
-returns c =
-    rw c.if-self.false

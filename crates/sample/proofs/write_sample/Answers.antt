@@ -1,9 +1,0 @@
-use Rattle.std.proofs.Common.{lit≤, sym}
-use borrow.Author.Rules.{rules}
-use Rattle.columns.proofs.laws.Table.{table_of}
-use Rattle.sample.proofs.Back.{sample_sound}
-use Rattle.sample.proofs.write_sample.Goals as goal
-
-pub write_columns-requires : goal.write_columns-requires
-write_columns-requires c =
-    (search rules, (sym sample_sound.wide, table_of sample_sound _ _ _ _ (lit≤ tt) (lit≤ tt) (search rules) (search rules) (search rules)))
