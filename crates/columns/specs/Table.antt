@@ -1,6 +1,6 @@
 -- A list of columns as a table of flat numbers, a record as flat arrays, and what the table's reader and writers owe. The table and
 -- the arrays are helping definitions about the code; what a call owes is document 01's, "Numbers answered", "What each call owes".
-use Rattle.std.specs.Prelude.{ℕ, zero, suc, ◌+◌, ◌/◌, ◌%◌, ◌≤◌, ◌≡◌, List, [], ◌∷◌, ◌++◌, Bool, true, ◌&&◌, ℤ, pos, length, take, drop, get_or, T, eqb, leb, ltb, Result, Ok, Err, ⊤}
+use Rattle.std.specs.Prelude.{ℕ, ◌+◌, ◌/◌, ◌%◌, ◌≤◌, ◌≡◌, List, [], ◌∷◌, ◌++◌, Bool, true, ◌&&◌, ℤ, pos, length, take, drop, get_or, T, eqb, leb, Result, Ok, Err, ⊤}
 use Rattle.std.proofs.Math.Seq.{slice}
 use Rattle.columns.specs.Answer.{pick, Answer, ok, refusal, refusal_at}
 use Rattle.columns.specs.Number.{form_width}

@@ -127,15 +127,15 @@ impl<'a> Layout<'a> {
     }
 }
 
-// A rule by its number.
-pub fn rule_at(number: u32) -> Rule
+// A rule by its number, of ANY_TEXT to BLANK_OR_FILLED; from there on every number is the last.
+pub fn rule_at(number: usize) -> Rule
     ensures { result ≡ rule_at number }
 {
     match number {
-        ANY_TEXT => Rule::AnyText,
-        NO_BRACKETS => Rule::NoBrackets,
-        NOT_BLANK_FIRST => Rule::NotBlankFirst,
-        NOT_ALL_BLANK => Rule::NotAllBlank,
+        0 => Rule::AnyText,
+        1 => Rule::NoBrackets,
+        2 => Rule::NotBlankFirst,
+        3 => Rule::NotAllBlank,
         _ => Rule::BlankOrFilled,
     }
 }
@@ -162,7 +162,7 @@ pub fn column_in(row: u32) -> Column
         },
         2 => Column::Text {
             width,
-            rule: rule_at(last),
+            rule: rule_at(last as usize),
         },
         3 => Column::Letter {
             first: place as u16,
@@ -211,22 +211,32 @@ pub fn texts_in(c: Column) -> usize
     }
 }
 
-// Whether a text's rule refuses its bytes.
-#[inline(always)]
-pub fn refuses_text(s: &[u8], rule: Rule) -> bool
+impl Rule {
+    // Whether it refuses a text's bytes.
+    #[inline(always)]
+    pub fn refuses(self, s: &[u8]) -> bool
+        requires { 1 ≤ length s.now }
+        ensures { result ≡ rule_refuses self s.now }
+    {
+        // most text: a comparison, where the match below may be a jump through a table
+        if matches!(self, Rule::AnyText | Rule::NoBrackets) {
+            return false;
+        }
+        match self {
+            Rule::AnyText | Rule::NoBrackets => false,
+            Rule::NotBlankFirst => s[0] == b' ',
+            Rule::NotAllBlank => is_blank(s),
+            Rule::BlankOrFilled => s[0] == b' ' && !is_blank(s),
+        }
+    }
+}
+
+// Whether the rule of a number refuses a text's bytes.
+pub fn refuses_text(s: &[u8], rule: usize) -> bool
     requires { 1 ≤ length s.now }
-    ensures { result ≡ rule_refuses rule s.now }
+    ensures { result ≡ rule_refuses (rule_at rule) s.now }
 {
-    // most text: a comparison, where the match below may be a jump through a table
-    if matches!(rule, Rule::AnyText | Rule::NoBrackets) {
-        return false;
-    }
-    match rule {
-        Rule::AnyText | Rule::NoBrackets => false,
-        Rule::NotBlankFirst => s[0] == b' ',
-        Rule::NotAllBlank => is_blank(s),
-        Rule::BlankOrFilled => s[0] == b' ' && !is_blank(s),
-    }
+    rule_at(rule).refuses(s)
 }
 
 // Why a rule refuses a text.

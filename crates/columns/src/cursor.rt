@@ -5,11 +5,11 @@ ghost use Rattle.columns.specs.Number.{int_field, dec_field, field_of, form_widt
 ghost use Rattle.columns.specs.Column.{Slot, allowed, text, letter, printed, width, group_width, good_group};
 ghost use Rattle.columns.specs.Group.{group_field, judge_group};
 ghost use Rattle.columns.specs.Reading.{judge, read_cell};
-ghost use Rattle.columns.specs.Table.{range_at, col_of, width_by, slots_of, placed};
+ghost use Rattle.columns.specs.Table.{range_at, rule_at, col_of, width_by, slots_of, placed};
 ghost use Rattle.columns.specs.Cell.{cell_answer, Found, Readable};
 
 use super::bytes::{copy_at, has, skip};
-use super::column::{Column, Layout, Rule, allows, refuses_text, rule_reason};
+use super::column::{Column, Layout, Rule, allows, rule_at, rule_reason};
 use super::group::{Group, Three, group_at, group_width, in_group, read_group};
 use super::number::{Field, Form, read_dec, read_int};
 use super::{Reason, Refusal};
@@ -146,14 +146,22 @@ impl Cursor {
     }
 
     // Text with its rule.
-    pub fn text(self, line: &[u8], width: usize, rule: Rule) -> Read<Result<Cell, Refusal>>
+    pub fn ruled(self, line: &[u8], width: usize, rule: Rule) -> Read<Result<Cell, Refusal>>
         requires { (self.at + width ≤ length line.now) × ((1 ≤ width) × (self.at ≤ 4096)) }
         ensures { (seen : List Slot) → Found (read_cell (text width rule) seen self.at (slice self.at (self.at + width) line.now)) result self.at width (slice self.at (self.at + width) line.now) }
     {
-        if refuses_text(self.field(line, width), rule) {
+        if rule.refuses(self.field(line, width)) {
             return self.past(width, Err(rule_reason(rule).at(self.at + 1)));
         }
         self.past(width, Ok(Cell::Chars))
+    }
+
+    // Text with the rule of a number.
+    pub fn text(self, line: &[u8], width: usize, rule: usize) -> Read<Result<Cell, Refusal>>
+        requires { (self.at + width ≤ length line.now) × ((1 ≤ width) × (self.at ≤ 4096)) }
+        ensures { (seen : List Slot) → Found (read_cell (text width (rule_at rule)) seen self.at (slice self.at (self.at + width) line.now)) result self.at width (slice self.at (self.at + width) line.now) }
+    {
+        self.ruled(line, width, rule_at(rule))
     }
 
     // Text of any length, as it stands, into `out` from place `to` on.
@@ -224,7 +232,7 @@ impl Cursor {
                     k,
                 ))
             }
-            Column::Text { width, rule } => self.text(line, width, rule),
+            Column::Text { width, rule } => self.ruled(line, width, rule),
             Column::Letter { first, count } => {
                 let set = layout.set(usize::from(first), usize::from(count));
                 self.letter(line, set)

@@ -8,7 +8,7 @@ ghost use Rattle.columns.specs.Table.{range_at, col_of, width_by};
 ghost use Rattle.columns.specs.Judge.{simple_col, is_day, last_day_before, Judged};
 
 use super::calendar::is_day;
-use super::column::{Column, Rule, in_range_at, refuses_text};
+use super::column::{Column, Rule, in_range_at};
 use super::number::{Field, Form, read_any_int, read_int};
 
 // Text: not where its rule refuses it.
@@ -17,7 +17,7 @@ fn text_ok(s: &[u8], rule: Rule) -> bool
     requires { 1 ≤ length s.now }
     ensures { (at : ℕ) → result ≡ is_ok (judge_text rule at s.now (ok s.now)) }
 {
-    !refuses_text(s, rule)
+    !rule.refuses(s)
 }
 
 // Whether v is a day of the month before place `at`, after its year: i2 after i4. Only a day that some month lacks looks back.

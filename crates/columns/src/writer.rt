@@ -10,8 +10,7 @@ ghost use Rattle.columns.specs.Table.{col_of, columns_in, slots_by, texts_by, sl
 
 use super::bytes::{blanks, copy, fill, first_barred, has, is_barred};
 use super::column::{
-    Column, Layout, Rule, allows, column_in, refuses_text, rule_reason, slots_in, texts_in,
-    width_in,
+    Column, Layout, Rule, allows, column_in, rule_reason, slots_in, texts_in, width_in,
 };
 use super::group::{group_at, write_group};
 use super::number::Form;
@@ -83,7 +82,7 @@ fn put_text(out: &mut [u8], at: usize, rule: Rule, s: &[u8]) -> Result<(), Refus
     requires { (at + length s.now ≤ 4096) × ((1 ≤ length s.now) × (length out.old ≡ length s.now)) }
     ensures { Wrote (judge_text rule at s.now (put_text (rule_bars rule) at s.now (ok s.now))) result out.old out.new }
 {
-    if refuses_text(s, rule) {
+    if rule.refuses(s) {
         return Err(rule_reason(rule).at(at + 1));
     }
     put_plain(out, at, rule == Rule::NoBrackets, s)
@@ -167,6 +166,12 @@ pub fn put_columns(
     for row in layout.rows {
         let c = column_in(*row);
         let end = at + width_in(c);
+        // stretches of blanks are half of the columns of a line: they are looked for first, and take nothing of the record
+        if let Column::Printed { byte, .. } = c {
+            fill(&mut out[at..end], byte);
+            at = end;
+            continue;
+        }
         let part = &mut out[at..end];
         write_cell(part, at, c, layout, flags, values, k, text, t)?;
         at = end;

@@ -20,7 +20,7 @@ pub const COMMENT_LINE: u8 = 42;
 pub const CLOSING_LINE: u8 = 43;
 
 // The largest number of rows, or of events, before a line.
-const MOST: usize = 65534;
+pub const MOST: usize = 65534;
 
 // A line of a block: its kind; the number, from 1, of the row that it is or that it belongs to; its end; and the place
 // after it.

@@ -33,9 +33,9 @@ fn record_line(kind: u8, from: &[u8], part: &mut [u8]) -> Result<usize, Refusal>
     ensures { Replied (ended (write_row_from (format_of kind) from.now (length part.old - 1))) result part.old part.new }
 {
     let room = part.len() - 1;
-    let n = write_row_from(kind, from, &mut part[0..room])?;
-    part[n] = NEWLINE;
-    Ok(n + 1)
+    let len = write_row_from(kind, from, &mut part[0..room])?;
+    part[len] = NEWLINE;
+    Ok(len + 1)
 }
 
 // The reply to what was written from place `at` on.

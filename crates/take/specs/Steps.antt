@@ -26,6 +26,11 @@ pub record Stepped (s : Session) (out rest : List ℕ) (s' : Session) (out' : Li
   pub text : out' ≡ out ++ said s (take n rest)
   pub counted : s'.number ≤ s.number + 1
 
+-- what a read brought is taken: the first n bytes of the chunk, and so many lines at most
+pub record Brought (s : Session) (chunk : List ℕ) (n : ℕ) (s' : Session) : Type 0 where
+  pub session : s' ≡ bytes s (take n chunk)
+  pub counted : s'.number ≤ s.number + 65536
+
 -- the session is the one after some bytes: no contract can say which bytes are read
 pub record Passed (s s' : Session) : Type 0 where
   pub input : List ℕ

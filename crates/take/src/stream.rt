@@ -1,7 +1,7 @@
 // Standard input to standard output, through a chunk of the input and a buffer of gathered output.
-ghost use Rattle.std.specs.Prelude.{◌≡◌, IfOk, [], ◌+◌, ◌≤◌, length};
+ghost use Rattle.std.specs.Prelude.{◌≡◌, [], ◌+◌, ◌≤◌, length};
 ghost use Rattle.take.specs.Session.{bytes};
-ghost use Rattle.take.specs.Steps.{most_lines, Passed, Finished};
+ghost use Rattle.take.specs.Steps.{most_lines, Brought, Passed, Finished};
 
 use super::intake::Intake;
 use super::page::Page;
@@ -33,27 +33,38 @@ fn write_out<R: Print + Eprint>(rt: &R, out: &Page) -> Result<(), Failed> {
     }
 }
 
-// Writes what is gathered, and gathers anew.
-fn flush<R: Print + Eprint>(rt: &R, out: &mut Page) -> Result<(), Failed>
-    ensures { IfOk result (λ _. out.new ≡ []) }
+// Writes what is gathered, unless a write has failed before, and gathers anew.
+fn flush<R: Print + Eprint>(
+    rt: &R,
+    out: &mut Page,
+    before: Result<(), Failed>,
+) -> Result<(), Failed>
+    ensures { out.new ≡ [] }
 {
-    write_out(rt, out)?;
+    let outcome = match before {
+        Ok(()) => write_out(rt, out),
+        Err(failed) => Err(failed),
+    };
     out.clear();
-    Ok(())
+    outcome
 }
 
 // Writes what is gathered where a whole answer may not fit behind it.
-fn make_space<R: Print + Eprint>(rt: &R, out: &mut Page) -> Result<(), Failed>
-    ensures { IfOk result (λ _. length out.new + 63 ≤ 65536) }
+fn make_space<R: Print + Eprint>(
+    rt: &R,
+    out: &mut Page,
+    before: Result<(), Failed>,
+) -> Result<(), Failed>
+    ensures { length out.new + 63 ≤ 65536 }
 {
     if out.len() <= FULL {
-        Ok(())
+        before
     } else {
-        flush(rt, out)
+        flush(rt, out, before)
     }
 }
 
-// Takes the bytes of a chunk.
+// Takes the bytes of a chunk, those after a write that failed too.
 fn take_chunk<R: Print + Eprint>(
     rt: &R,
     intake: &mut Intake,
@@ -61,18 +72,41 @@ fn take_chunk<R: Print + Eprint>(
     chunk: &[u8],
 ) -> Result<(), Failed>
     requires { intake.old.number + length chunk.now ≤ most_lines }
-    ensures { IfOk result (λ _. (intake.new ≡ bytes intake.old chunk.now) × (intake.new.number ≤ intake.old.number + length chunk.now)) }
+    ensures { (intake.new ≡ bytes intake.old chunk.now) × (intake.new.number ≤ intake.old.number + length chunk.now) }
 {
     let mut rest = chunk;
+    let mut outcome = Ok(());
     while !rest.is_empty() {
-        make_space(rt, out)?;
+        outcome = make_space(rt, out, outcome);
         let n = intake.take_next(out, rest);
         rest = &rest[n..];
     }
-    Ok(())
+    outcome
 }
 
-// Reads to the end of the input, or until something fails. What is gathered is written where reading fails.
+// Reads once, and takes what came: how many bytes that is, 0 at the end of the input, and whether anything failed. What is gathered
+// is written where reading fails.
+fn read_next<R: Print + Eprint, I: Read>(
+    rt: &R,
+    input: &mut I,
+    intake: &mut Intake,
+    chunk: &mut [u8],
+    out: &mut Page,
+) -> (usize, Result<(), Failed>)
+    requires { (length chunk.old ≡ 65536) × (intake.old.number + 65536 ≤ most_lines) }
+    ensures { Brought intake.old chunk.new result.0 intake.new }
+{
+    match input.read(chunk) {
+        Ok(n) => (n, take_chunk(rt, intake, out, &chunk[..n])),
+        Err(error) => {
+            let failed = complain(rt, "standard input", error);
+            let _ = write_out(rt, out);
+            (0, Err(failed))
+        }
+    }
+}
+
+// Reads to the end of the input, or until something fails.
 fn read_all<R: Print + Eprint, I: Read>(
     rt: &R,
     input: &mut I,
@@ -81,36 +115,30 @@ fn read_all<R: Print + Eprint, I: Read>(
     out: &mut Page,
 ) -> Result<(), Failed>
     requires { (length chunk.old ≡ 65536) × (intake.old.number ≡ 0) }
-    ensures { IfOk result (λ _. Passed intake.old intake.new × (intake.new.number ≤ most_lines)) }
+    ensures { Passed intake.old intake.new × (intake.new.number ≤ most_lines) }
 {
     for _ in 0..READS {
-        let n = match input.read(chunk) {
-            Ok(n) => n,
-            Err(error) => {
-                let failed = complain(rt, "standard input", error);
-                let _ = write_out(rt, out);
-                return Err(failed);
-            }
-        };
+        let (n, outcome) = read_next(rt, input, intake, chunk, out);
+        outcome?;
         if n == 0 {
             return Ok(());
         }
-        take_chunk(rt, intake, out, &chunk[..n])?;
     }
     let _ = eprintln!(rt; "take: standard input: too long");
     let _ = write_out(rt, out);
     Err(Failed)
 }
 
-// Ends the last line, and prints the catalogue.
+// Ends the last line, and prints the catalogue, unless a write fails before it.
 fn finish<R: Print + Eprint>(rt: &R, intake: &mut Intake, out: &mut Page) -> Result<(), Failed>
     requires { intake.old.number ≤ most_lines }
-    ensures { IfOk result (λ _. Finished intake.old intake.new out.new) }
+    ensures { Finished intake.old intake.new out.new }
 {
-    make_space(rt, out)?;
+    let space = make_space(rt, out, Ok(()));
     intake.close(out);
-    flush(rt, out)?;
+    let answers = flush(rt, out, space);
     put_catalogue(out, intake.room());
+    answers?;
     write_out(rt, out)
 }
 

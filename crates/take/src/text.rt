@@ -81,7 +81,7 @@ fn put_section(out: &mut Page, title: &[u8], entries: &Entries)
 // The held lines, the deletions, the links: at most 64,082 bytes.
 pub fn put_catalogue(out: &mut Page, room: &[u8])
     requires { Ordered room.now × (length out.old + 64082 ≤ 65536) }
-    ensures { out.new ≡ out.old ++ catalogue_text (contents room.now) }
+    ensures { (out.new ≡ out.old ++ catalogue_text (contents room.now)) × (length out.new ≤ length out.old + 64082) }
 {
     let held = held_in(room);
     let deletions = deletions_in(room, held);

@@ -6,7 +6,7 @@ use Prim.Native.Nat.{ℕ, zero, suc, ◌+◌, ◌-◌, ◌≤◌, ◌<◌}
 use native.Mathlib.Nat.{zero-add, suc-add}
 use native.Mathlib.Numerals.{add-one}
 use native.Mathlib.Omega.{arith}
-use lib.ListN.{length, take, drop, get_or, set, replicate, length-take, length-drop, replicate-append-replicate, drop_of_length-le}
+use lib.ListN.{length, take, drop, get_or, set, replicate, length-drop, replicate-append-replicate, drop_of_length-le}
 use lib.Seq.{slice, slice-cons, slice_empty, take-nil, drop-nil, take-take, drop-drop, take-suc, take-suc-set, take-add, drop-cons, take_all, set_at, length-take-le, take-length, get_or-take, get_or-drop}
 use lib.Dec.{eqb, ltb}
 use borrow.Author.Tests.{eq-eqb, ne_eqb, eqb-true, lt-leb, le-leb, ltb-true, ltb-false}

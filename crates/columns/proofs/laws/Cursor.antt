@@ -2,27 +2,18 @@
 use mathlib.Core.Path.{◌≡◌, refl, sym, ◌∙◌}
 use mathlib.Core.Bool.{Bool, true, false}
 use mathlib.Core.List.{List, [], ◌∷◌}
-use Prim.Native.Nat.{ℕ, ◌+◌, ◌-◌, ◌≤◌, ◌<◌}
+use Prim.Native.Nat.{ℕ, ◌+◌, ◌-◌, ◌<◌}
 use native.Mathlib.Omega.{arith}
 use lib.ListN.{length, take, drop, get_or}
 use borrow.Author.Tests.{ne_eqb, eq-eqb}
-use lib.Seq.{slice, length-slice, get_or-drop, get_or-take}
-use Rattle.columns.specs.declared.group.Three.{Three}
+use lib.Seq.{slice, get_or-drop, get_or-take}
 use Rattle.columns.specs.declared.group.Group.{Group}
-use Rattle.columns.specs.declared.number.Form.{Form}
-use Rattle.columns.specs.declared.number.Field.{Field}
-use Rattle.std.specs.Prelude.{Result}
-use Rattle.columns.specs.declared.Refusal.{Refusal}
-use Rattle.columns.specs.declared.cursor.Cell.{Cell}
-use Rattle.columns.specs.declared.cursor.Read.{Read}
-use Rattle.columns.specs.Answer.{Answer, ok, refusal, not_blank, wrong_letter}
-use Rattle.columns.specs.Bytes.{is_none, skip, trim, all_blank, member}
+use Rattle.columns.specs.Answer.{ok, refusal, not_blank, wrong_letter}
+use Rattle.columns.specs.Bytes.{is_none, skip, all_blank, member}
 use Rattle.columns.specs.Number.{form_width, field_of}
-use Rattle.columns.specs.Column.{Slot, Rec, Range, allowed, Rule, Col, numeric, text, letter, group, printed, width, first_width, second_start, second_end, third_start, group_width}
-use Rattle.columns.specs.Group.{three_of, group_field, judge_group}
-use Rattle.columns.specs.Reading.{nothing, some_text, judge, rule_refuses, rule_number, read_cell}
-use Rattle.columns.specs.Cell.{Found}
-use Rattle.columns.proofs.laws.Bytes.{part_none, part_cons, slice_drop, slice_take}
+use Rattle.columns.specs.Column.{Slot, Rule, text, letter, printed, first_width, second_start, second_end, third_start}
+use Rattle.columns.specs.Group.{three_of, group_field}
+use Rattle.columns.specs.Reading.{nothing, some_text, rule_refuses, rule_number, read_cell}
 use Rattle.columns.specs.declared.group.Three.TheVariants as K
 
 pub part_at : (l : List ℕ) (at e i : ℕ) → at + i < e → get_or (slice at e l) i 0 ≡ get_or l (at + i) 0

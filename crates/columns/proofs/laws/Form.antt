@@ -6,7 +6,7 @@ use Prim.Native.Nat.{ℕ, suc, ◌+◌, ◌-◌, ◌*◌, ◌/◌, ◌^◌, ◌�
 use native.Mathlib.Nat.{mul-le-mul_right, pow-suc}
 use native.Mathlib.Omega.{arith}
 use lib.ListN.{length, drop, replicate, length-append, get_or}
-use lib.Seq.{slice, take_at, drop_at}
+use lib.Seq.{take_at, drop_at}
 use lib.Dec.{leb, eqb, T, leb→le}
 use lib.IntN.{ℤ, pos}
 use borrow.Author.Tests.{ltb-true, ne_eqb, eq-eqb}

@@ -2,13 +2,13 @@
 use mathlib.Core.Path.{◌≡◌, refl, sym, ap, ◌∙◌}
 use mathlib.Core.Bool.{Bool, true, false, not, ◌&&◌, false≢true}
 use mathlib.Core.List.{List, [], ◌∷◌, ◌++◌, append_assoc}
-use Prim.Native.Nat.{ℕ, zero, suc, ◌+◌, ◌-◌, ◌≤◌, ◌<◌}
+use Prim.Native.Nat.{ℕ, ◌+◌, ◌-◌, ◌≤◌, ◌<◌}
 use native.Mathlib.Omega.{arith}
 use lib.ListN.{length, take, drop, get_or}
 use lib.Seq.{slice, drop-drop}
 use lib.Dec.{T, eqb}
 use lib.IntN.{ℤ}
-use borrow.Author.Tests.{eqb-true, eqb-false}
+use borrow.Author.Tests.{eqb-true}
 use Rattle.columns.specs.declared.Reason.{Reason}
 use Rattle.columns.specs.declared.number.Field.{Field}
 use Rattle.columns.specs.declared.number.Form.{Form}
@@ -17,7 +17,7 @@ use Rattle.columns.specs.Answer.{pick, Answer, ok, refusal, is_ok, both, chain, 
 use Rattle.columns.specs.Number.{int_field, field_of}
 use Rattle.columns.specs.Column.{Slot, missing, given, slot_in, Rec, joined, last_day_after, Range, allowed, Rule, Col, numeric, text, letter, group, printed, width, good_col, good, widths}
 use Rattle.columns.specs.Reading.{one_number, judge, rule_refuses, rule_number, judge_text, as_text, read_cell, read_columns}
-use Rattle.columns.specs.Table.{column_in, range_at, col_of, rule_at, columns_of}
+use Rattle.columns.specs.Table.{column_in, range_at, col_of, columns_of}
 use Rattle.columns.specs.Judge.{simple_col, looks_back, is_day, date_to, simple, last_day_before, Judged, Judgeable}
 use Rattle.columns.proofs.laws.Table.{columns_more, columns_none}
 use Rattle.columns.proofs.laws.Bytes.{slice_is}

@@ -6,7 +6,6 @@ use Prim.Native.Nat.{ℕ, zero, suc, ◌+◌, ◌-◌, ◌*◌, ◌^◌, ◌≤�
 use native.Mathlib.Nat.{pow-suc, pow-zero, mul_assoc, mul_comm, mul-le-mul_right, le-mul_of_pos_right, pow-le-pow_right}
 use native.Mathlib.Omega.{arith}
 use lib.ListN.{length, take, drop, length-take, length-drop, get_or}
-use lib.Seq.{slice, length-slice}
 use lib.Pow.{pow-add}
 use lib.Dec.{leb, eqb, lit<}
 use lib.IntN.{pos, neg_ℤ, ◌-ℤ◌, +ℤ_idl}
@@ -18,7 +17,7 @@ use borrow.Author.Tests.{eq-eqb, ne_eqb, leb-true}
 use Rattle.columns.specs.Answer.{pick}
 use Rattle.columns.specs.Bytes.{is_digit, is_none, trim}
 use Rattle.columns.specs.Number.{digits, number, scan, fraction, magnitude, with_sign, signed_number, value, int_field, dec_field}
-use Rattle.columns.proofs.laws.Bytes.{drop_more, drop_end, slice_take, slice_drop, skip_short}
+use Rattle.columns.proofs.laws.Bytes.{drop_more, drop_end, skip_short}
 use Rattle.std.specs.Prelude.{Option, Some, None}
 use Rattle.columns.specs.declared.number.Scan.{Scan}
 use Rattle.columns.proofs.laws.Tests.{both_true}

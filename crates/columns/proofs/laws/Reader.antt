@@ -26,7 +26,7 @@ use Rattle.columns.specs.Reading.{nothing, one_number, some_text, judge, read_ce
 use Rattle.columns.specs.Table.{Outcome, column_in, col_of, columns_of, slots_of, flag_of, value_of, flags_of, values_of, over, outcome_of, ReadPart, Table, placed}
 use Rattle.columns.specs.Cell.{slot, cell_rec, cell_answer, Readable, Storable, Stored}
 use Rattle.columns.proofs.laws.Answers.{passed, held, chained, done_of, refused_of}
-use Rattle.columns.proofs.laws.Places.{placed_length, placed_placed, placed_none}
+use Rattle.columns.proofs.laws.Places.{placed_length, placed_placed}
 use Rattle.columns.proofs.laws.Table.{flags_length, values_length, flags_append, values_append, slots_laid, columns_more, columns_none, table_good, table_fits, table_numbers, table_chars, table_line, table_next}
 use Rattle.columns.proofs.laws.Bytes.{slice_is}
 use Rattle.columns.proofs.laws.Columns.{text_read}

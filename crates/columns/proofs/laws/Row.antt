@@ -4,10 +4,9 @@ use mathlib.Core.Bool.{false≢true, Bool, true, false, not, ◌&&◌}
 use mathlib.Core.List.{List, [], ◌∷◌, ◌++◌}
 use Prim.Native.Nat.{ℕ, zero, suc, ◌+◌, ◌-◌, ◌*◌, ◌^◌, ◌≤◌, ◌<◌}
 use native.Mathlib.Omega.{arith}
-use native.Mathlib.Numerals.{add-one}
 use lib.IntN.{ℤ, pos, negsuc, nat_abs}
-use lib.ListN.{length, take, drop, get_or, replicate, length-drop, length-replicate, get_or-replicate, replicate-append-replicate, drop_of_length-le, take-append-drop}
-use lib.Seq.{length-take-le, take_all, drop-cons, drop-drop, get_or-take, take_at, drop_at}
+use lib.ListN.{length, take, drop, get_or, replicate, length-drop, length-replicate, get_or-replicate, replicate-append-replicate, take-append-drop}
+use lib.Seq.{length-take-le, drop-drop, get_or-take, take_at, drop_at}
 use lib.Dec.{T, leb, ltb, eqb, leb→le}
 use borrow.Author.Tests.{ltb-true, ltb-false, le-ltb, eq-eqb, ne_eqb, eqb-true}
 use Rattle.std.specs.Prelude.{IsTrue, ◌↔◌, EachIndex, slice_index}

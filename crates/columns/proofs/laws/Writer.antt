@@ -5,7 +5,7 @@ use mathlib.Core.List.{List, [], ◌∷◌, ◌++◌, append_assoc, append-nil}
 use Prim.Native.Nat.{ℕ, ◌+◌, ◌-◌, ◌≤◌, ◌<◌}
 use native.Mathlib.Omega.{arith}
 use lib.ListN.{length, take, drop, get_or, replicate, length-append, length-drop, length-replicate}
-use lib.Dec.{eqb, T}
+use lib.Dec.{T}
 use lib.IntN.{ℤ}
 use borrow.Author.Tests.{le-ltb, lt-ltb}
 use lib.Seq.{slice, take_all, length-take-le, drop-drop, take-add, drop-cons, get_or-take, get_or-drop}
@@ -15,9 +15,8 @@ use Rattle.columns.specs.declared.number.Form.{Form}
 use Rattle.std.specs.Prelude.{Ok, Err}
 use Rattle.columns.specs.declared.Refusal.{Refusal}
 use Rattle.columns.specs.declared.group.Group.{Group}
-use Rattle.columns.specs.Answer.{refusal_at, pick, Answer, ok, refusal, both, wrong_letter, too_short}
-use Rattle.columns.specs.Bytes.{member}
-use Rattle.columns.specs.Column.{Slot, missing, Range, allowed, Rule, rule_bars, Col, numeric, group, width, slots, texts, good, widths, all_slots, all_texts}
+use Rattle.columns.specs.Answer.{refusal_at, Answer, ok, refusal, both, too_short}
+use Rattle.columns.specs.Column.{Slot, missing, Range, allowed, Rule, rule_bars, Col, numeric, group, printed, width, slots, texts, good, widths, all_slots, all_texts}
 use Rattle.columns.specs.Group.{put_group}
 use Rattle.columns.specs.Reading.{rule_refuses, rule_number, judge_text}
 use Rattle.columns.specs.Writing.{put_number, put_text, write_cell, write_columns, write_line, write_part}
@@ -173,6 +172,12 @@ module _ {cs : List Col} {start : ℕ} {S : List Slot} {chs out₀ : List ℕ} {
           let v = cell_written c (take k S) at (take (slots c) (drop k S)) (take (texts c) (drop t chs)) d.value (table_good g.ready).0 lk lt d.is in
           turn_wrote at₁ k₁ t₁ ea ek et d.value v.size d.is
           (wrote_bytes s d.value d.is ∙ over_whole d.value (mid_of at (at + w - at) out) (omega (arith, v.size, turn_mid)))
+
+-- printed bytes take nothing of the record
+pub turn_printed : (v b : ℕ) {cs : List Col} {start : ℕ} {S : List Slot} {chs out₀ : List ℕ} {nv : ℕ} {rest : List Col} {at k t : ℕ} {out mid : List ℕ} → Going cs start S chs out₀ nv (printed b v ∷ rest) at k t out → (w : ℕ) → w ≡ v → mid ≡ replicate (length (mid_of at (at + w - at) out)) b → Going cs start S chs out₀ nv rest (at + w) k t (put_mid at (at + w - at) out mid)
+unfolding write_cell
+turn_printed v b {at = at} {k = k} {t = t} g w q h =
+    turn_wrote g w q (at + w) k t (ap (λ (m : ℕ). at + m) q) (omega arith) (omega arith) (replicate v b) (length-replicate v b) refl (h ∙ ap (λ (m : ℕ). replicate m b) (turn_mid g w q ∙ q))
 
 module _ (s : List ℕ) (r : List ℤ) (ls : List ℕ) (i : ℕ) {cs : List Col} {start : ℕ} {S : List Slot} {chs out₀ : List ℕ} {nv : ℕ} {at k t : ℕ} {out : List ℕ} where
   -- the next row of the table

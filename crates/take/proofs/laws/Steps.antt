@@ -9,7 +9,7 @@ use Rattle.formats.specs.Lines.{line_end}
 use Rattle.catalogue.specs.Room.{call_of, room_after}
 use Rattle.take.specs.Text.{answer_line}
 use Rattle.take.specs.Session.{cut, Session, ended, ended_said, grown, bytes, said}
-use Rattle.take.specs.Steps.{Stepped, Passed}
+use Rattle.take.specs.Steps.{Stepped, Brought, Passed}
 use Rattle.catalogue.proofs.laws.assoc.Tri.{le, gt, le?}
 use Rattle.take.proofs.laws.Session.{bytes_append, Grown, line_grown, Ended, line_ended}
 
@@ -85,6 +85,12 @@ chunk_turn {s} {rest = rest} {n = n} t =
 pub chunk_end : (s : Session) (rest : List ℕ) → length rest ≡ 0 → bytes s rest ≡ s
 unfolding bytes
 chunk_end s rest h = ap (bytes s) (nothing rest h)
+
+-- ---- a read
+
+pub brought_none : (s : Session) (chunk : List ℕ) → Brought s chunk 0 s
+unfolding bytes
+brought_none s chunk = record { session = refl; counted = omega arith }
 
 -- ---- the input so far
 

@@ -1,13 +1,14 @@
 // The number fields of the second reader: blanks, an optional minus, digits to the last column.
-ghost use Rattle.std.specs.Prelude.{◌≤◌, length};
+ghost use Rattle.std.specs.Prelude.{IfOk, ◌<◌, ◌≤◌, length};
 
 // Something else in a number field.
 #[derive(Clone, Copy)]
 pub struct BadForm;
 
-// The number that digits stand for; there is at least one.
+// The number that digits stand for, of at most eight places; there is at least one.
 fn read_digits(digits: &[u8]) -> Result<u32, BadForm>
     requires { length digits.now ≤ 8 }
+    ensures { IfOk result (λ n. n < 100000000) }
 {
     if digits.is_empty() {
         return Err(BadForm);

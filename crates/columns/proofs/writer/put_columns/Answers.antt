@@ -5,7 +5,7 @@ use lib.ListN.{length}
 use Rattle.std.proofs.lemmas.Result.{err_from_is_err_and}
 use Rattle.columns.specs.Table.{columns_in, slots_of}
 use Rattle.columns.proofs.laws.Table.{sizes, slots_length, table_low, table_k, table_t}
-use Rattle.columns.proofs.laws.Writer.{going_start, going_row, going_last, going_end, turn_fits, turn_ready, turn_refused, turn_done}
+use Rattle.columns.proofs.laws.Writer.{going_start, going_row, going_last, going_end, turn_fits, turn_ready, turn_refused, turn_done, turn_printed}
 use Rattle.columns.proofs.writer.put_columns.Goals as goal
 
 pub loop-row-init : goal.loop-row-init
@@ -22,6 +22,24 @@ overflow_add-end c =
     let w = sizes x.result a.layout.now.ranges.now a.layout.now.letters.now in
     let g = going_row a.layout.now.rows.now a.layout.now.ranges.now a.layout.now.letters.now l.row-index x.result c.loop-row-test.true x.ensures l.invariant in
     omega (arith, table_low g.ready c.width_in.result (c.width_in.ensures ∙ sym w.wide))
+
+pub slice_bounds-fill-end : goal.slice_bounds-fill-end
+slice_bounds-fill-end c =
+    let a = c.args in
+    let l = c.loop-row in
+    let x = c.column_in-c in
+    let w = sizes x.result a.layout.now.ranges.now a.layout.now.letters.now in
+    let g = going_row a.layout.now.rows.now a.layout.now.ranges.now a.layout.now.letters.now l.row-index x.result c.loop-row-test.true x.ensures l.invariant in
+    turn_fits g c.width_in.result (c.width_in.ensures ∙ sym w.wide)
+
+pub loop-row-preserved-in-Printed : goal.loop-row-preserved-in-Printed
+loop-row-preserved-in-Printed c =
+    let a = c.args in
+    let l = c.loop-row in
+    let x = c.column_in-c in
+    let p = c.in-Printed in
+    let g = going_row a.layout.now.rows.now a.layout.now.ranges.now a.layout.now.letters.now l.row-index x.result c.loop-row-test.true x.ensures l.invariant in
+    turn_printed p.width p.byte (rw p.is at g) c.width_in.result (rw p.is at c.width_in.ensures) c.fill.ensures
 
 pub slice_bounds-part-end : goal.slice_bounds-part-end
 slice_bounds-part-end c =

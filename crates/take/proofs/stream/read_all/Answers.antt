@@ -9,6 +9,18 @@ loop-init g c =
 
 pub loop-preserved : goal.loop-preserved
 loop-preserved g c =
-    let t = c.in_ok-take_chunk.ensures in
+    let t = c.read_next-n.ensures in
     let l = c.loop in
-    (passed_more (take c.in-Ok.n c.read.new.buf) l.invariant.0 t.0, omega (arith, t.1, l.invariant.1, c.in-Ok.ensures.bound, c.read.auto.buf, c.loop.auto.chunk, c.requires.0))
+    (passed_more (take c.read_next-n.result.0 c.read_next-n.new.chunk) l.invariant.0 t.session, omega (arith, t.counted, l.invariant.1))
+
+pub returns-in_err-outcome : goal.returns-in_err-outcome
+returns-in_err-outcome g c =
+    let t = c.read_next-n.ensures in
+    let l = c.loop in
+    (passed_more (take c.read_next-n.result.0 c.read_next-n.new.chunk) l.invariant.0 t.session, omega (arith, t.counted, l.invariant.1, c.loop-test.true, l.auto.counter-end))
+
+pub returns-then-n-eq0 : goal.returns-then-n-eq0
+returns-then-n-eq0 g c =
+    let t = c.read_next-n.ensures in
+    let l = c.loop in
+    (passed_more (take c.read_next-n.result.0 c.read_next-n.new.chunk) l.invariant.0 t.session, omega (arith, t.counted, l.invariant.1, c.loop-test.true, l.auto.counter-end))

@@ -55,4 +55,4 @@ returns c =
     let k = held_printable c.args.room.now c.requires.0 c.held_in-held.result c.held_in-held.ensures in
     let m = deletions_printable c.args.room.now c.requires.0 c.deletions_in-deletions.result c.deletions_in-deletions.ensures in
     let n = links_printable c.args.room.now c.requires.0 c.links_in-links.result c.links_in-links.ensures in
-    rw (c.put_links.ensures.0, c.put_section-2.ensures.0, c.put_section.ensures.0, k.2, m.2, n.3) (simp append_assoc)
+    (rw (c.put_links.ensures.0, c.put_section-2.ensures.0, c.put_section.ensures.0, k.2, m.2, n.3) (simp append_assoc), omega (arith, c.put_section.ensures.1, c.put_section-2.ensures.1, c.put_links.ensures.1, k.1, m.1, n.2))

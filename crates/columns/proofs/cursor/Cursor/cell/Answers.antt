@@ -16,7 +16,7 @@ returns-in-Number c =
     (record { answer = rw c.with.ensures.0 (rw (c.from-range.ensures, c.number-read.ensures.0) at (c.judged.ensures f)); next = ap (λ x. x.at) c.with.ensures.1 ∙ c.number-read.ensures.1 })
 
 pub returns-in-Text : goal.returns-in-Text
-returns-in-Text c = rw c.in-Text.is (c.text.ensures (take c.args.k (slots_of c.args.flags.now c.args.values.now)))
+returns-in-Text c = rw c.in-Text.is (c.ruled.ensures (take c.args.k (slots_of c.args.flags.now c.args.values.now)))
 
 pub returns-in-Letter : goal.returns-in-Letter
 returns-in-Letter c =
