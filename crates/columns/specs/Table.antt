@@ -1,6 +1,6 @@
 -- A list of columns as a table of flat numbers, a record as flat arrays, and what the table's reader and writers owe. The table and
 -- the arrays are helping definitions about the code; what a call owes is document 01's, "Numbers answered", "What each call owes".
-use Rattle.std.specs.Prelude.{ℕ, ◌+◌, ◌/◌, ◌%◌, ◌≤◌, ◌≡◌, List, [], ◌∷◌, ◌++◌, Bool, true, ◌&&◌, ℤ, pos, length, take, drop, get_or, T, eqb, leb, Result, Ok, Err, ⊤}
+use Rattle.std.specs.Prelude.{ℕ, ◌+◌, ◌/◌, ◌%◌, ◌≤◌, ◌<◌, ◌≡◌, List, [], ◌∷◌, ◌++◌, Bool, true, ◌&&◌, ℤ, pos, length, take, drop, get_or, T, eqb, leb, Result, Ok, Err, ⊤}
 use Rattle.std.proofs.Math.Seq.{slice}
 use Rattle.columns.specs.Answer.{pick, Answer, ok, refusal, refusal_at}
 use Rattle.columns.specs.Number.{form_width}
@@ -45,6 +45,14 @@ column_by kind place width required last =
 abbrev pub column_in : ℕ → Column
 column_in row =
     column_by (row / 16777216) (row / 32768 % 512) (row / 256 % 128) (leb 128 (row % 256)) (row % 128)
+
+-- a column whose place is below p and whose last part is below l; a text's rule is one of its own
+abbrev pub Within : ℕ → ℕ → Column → Type 0
+Within p l (K.Number m q k) = k < l
+Within p l (K.Text w x) = Unit {0}
+Within p l (K.Letter i n) = (i < p) × (n < l)
+Within p l (K.Group k) = k < l
+Within p l (K.Printed w b) = b < l
 
 -- the column that a row stands for, with the ranges and the letters of its table
 abbrev pub col_of : Column → List ℤ → List ℕ → Col

@@ -3,7 +3,7 @@ ghost use Rattle.std.specs.Prelude.{◌≡◌, List, ◌+◌, ◌-◌, ◌^◌, 
 ghost use Rattle.std.proofs.Math.Seq.{slice};
 ghost use Rattle.columns.specs.Column.{Slot, slot_in, within, last_day_after, allowed};
 ghost use Rattle.columns.specs.Reading.{rule_refuses, rule_number};
-ghost use Rattle.columns.specs.Table.{column_in, range_at, rule_at, width_by, slots_by, texts_by, slot_of, slots_of};
+ghost use Rattle.columns.specs.Table.{column_by, column_in, Within, range_at, rule_at, width_by, slots_by, texts_by, slot_of, slots_of};
 
 use super::Reason;
 use super::bytes::is_blank;
@@ -75,22 +75,22 @@ pub enum Column {
     Number {
         form: Form,
         required: bool,
-        range: u8,
+        range: usize,
     },
     Text {
         width: usize,
         rule: Rule,
     },
     Letter {
-        first: u16,
-        count: u8,
+        first: usize,
+        count: usize,
     },
     Group {
-        number: u8,
+        number: usize,
     },
     Printed {
         width: usize,
-        byte: u8,
+        byte: usize,
     },
 }
 
@@ -140,40 +140,46 @@ pub fn rule_at(number: usize) -> Rule
     }
 }
 
+impl Column {
+    // The column of a row's parts, whatever they are.
+    #[inline(always)]
+    pub fn of(kind: u32, place: usize, width: usize, required: bool, last: usize) -> Column
+        ensures { result ≡ column_by kind place width required last }
+    {
+        match kind {
+            0 => Column::Number {
+                form: Form::Integer(width),
+                required,
+                range: last,
+            },
+            1 => Column::Number {
+                form: Form::Decimal(width, place),
+                required,
+                range: last,
+            },
+            2 => Column::Text {
+                width,
+                rule: rule_at(last),
+            },
+            3 => Column::Letter {
+                first: place,
+                count: last,
+            },
+            4 => Column::Group { number: last },
+            _ => Column::Printed { width, byte: last },
+        }
+    }
+}
+
 // The column of a row.
 #[inline(always)]
 pub fn column_in(row: u32) -> Column
-    ensures { result ≡ column_in row }
+    ensures { (result ≡ column_in row) × Within 512 128 result }
 {
-    let place = row / PLACES % 512;
+    let place = (row / PLACES % 512) as usize;
     let width = (row / WIDTH % 128) as usize;
-    let required = REQUIRED <= row % 256;
-    let last = row % 128;
-    match row / DECIMAL {
-        0 => Column::Number {
-            form: Form::Integer(width),
-            required,
-            range: last as u8,
-        },
-        1 => Column::Number {
-            form: Form::Decimal(width, place as usize),
-            required,
-            range: last as u8,
-        },
-        2 => Column::Text {
-            width,
-            rule: rule_at(last as usize),
-        },
-        3 => Column::Letter {
-            first: place as u16,
-            count: last as u8,
-        },
-        4 => Column::Group { number: last as u8 },
-        _ => Column::Printed {
-            width,
-            byte: last as u8,
-        },
-    }
+    let last = (row % 128) as usize;
+    Column::of(row / DECIMAL, place, width, REQUIRED <= row % 256, last)
 }
 
 // The columns of the line that it takes.
@@ -185,7 +191,7 @@ pub fn width_in(c: Column) -> usize
         Column::Number { form, .. } => width_of(form),
         Column::Text { width, .. } | Column::Printed { width, .. } => width,
         Column::Letter { .. } => 1,
-        Column::Group { number } => group_width(group_at(usize::from(number))),
+        Column::Group { number } => group_width(group_at(number)),
     }
 }
 

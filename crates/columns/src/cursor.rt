@@ -5,7 +5,7 @@ ghost use Rattle.columns.specs.Number.{int_field, dec_field, field_of, form_widt
 ghost use Rattle.columns.specs.Column.{Slot, allowed, text, letter, printed, width, group_width, good_group};
 ghost use Rattle.columns.specs.Group.{group_field, judge_group};
 ghost use Rattle.columns.specs.Reading.{judge, read_cell};
-ghost use Rattle.columns.specs.Table.{range_at, rule_at, col_of, width_by, slots_of, placed};
+ghost use Rattle.columns.specs.Table.{Within, range_at, rule_at, col_of, width_by, slots_of, placed};
 ghost use Rattle.columns.specs.Cell.{cell_answer, Found, Readable};
 
 use super::bytes::{copy_at, has, skip};
@@ -210,7 +210,7 @@ impl Cursor {
         values: &[i64],
         k: usize,
     ) -> Read<Result<Cell, Refusal>>
-        requires { Readable (col_of c layout.now.ranges.now layout.now.letters.now) self.at (length line.now) k (length flags.now) (length values.now) }
+        requires { Within 65536 256 c × Readable (col_of c layout.now.ranges.now layout.now.letters.now) self.at (length line.now) k (length flags.now) (length values.now) }
         ensures { Found (read_cell (col_of c layout.now.ranges.now layout.now.letters.now) (take k (slots_of flags.now values.now)) self.at (slice self.at (self.at + width_by c) line.now)) result self.at (width_by c) (slice self.at (self.at + width_by c) line.now) }
     {
         match c {
@@ -220,7 +220,6 @@ impl Cursor {
                 range,
             } => {
                 let read = self.number(line, form);
-                let range = usize::from(range);
                 read.with(judged(
                     read.value,
                     self.at,
@@ -234,15 +233,15 @@ impl Cursor {
             }
             Column::Text { width, rule } => self.ruled(line, width, rule),
             Column::Letter { first, count } => {
-                let set = layout.set(usize::from(first), usize::from(count));
+                let set = layout.set(first, count);
                 self.letter(line, set)
             }
             Column::Group { number } => {
-                let g = group_at(usize::from(number));
+                let g = group_at(number);
                 let read = self.group(line, g);
                 read.with(grouped(read.value, self.at, g))
             }
-            Column::Printed { width, byte } => self.printed(line, width, byte),
+            Column::Printed { width, byte } => self.printed(line, width, byte as u8),
         }
     }
 }

@@ -4,7 +4,7 @@ ghost use Rattle.std.proofs.Math.Seq.{slice};
 ghost use Rattle.columns.specs.Answer.{is_ok, ok};
 ghost use Rattle.columns.specs.Column.{Slot, within, last_day_after, allowed, good_col};
 ghost use Rattle.columns.specs.Reading.{judge, judge_text};
-ghost use Rattle.columns.specs.Table.{range_at, col_of, width_by};
+ghost use Rattle.columns.specs.Table.{Within, range_at, col_of, width_by};
 ghost use Rattle.columns.specs.Judge.{simple_col, is_day, last_day_before, Judged};
 
 use super::calendar::is_day;
@@ -40,24 +40,24 @@ fn number_ok(
     line: &[u8],
     at: usize,
     required: bool,
-    range: u8,
+    range: usize,
     ranges: &[i64],
 ) -> bool
-    requires { (at ≤ length line.now) × (range ≡ 2 → 6 ≤ at) }
+    requires { (at ≤ length line.now) × (range ≡ 2 → 6 ≤ at) × (range < 256) }
     ensures { (seen : List Slot) (k : ℕ) → (range ≡ 2 → last_day_after seen ≡ last_day_before line.now at) → result ≡ is_ok (judge required (allowed (range_at ranges.now range) seen) k field) }
 {
     match field {
         Field::Missing => !required,
         Field::Bad => false,
         Field::Value(v) if range == 2 => day_before(line, at, v),
-        Field::Value(v) => in_range_at(ranges, usize::from(range), v),
+        Field::Value(v) => in_range_at(ranges, range, v),
     }
 }
 
 // Whether a column, an integer or text, is accepted after the first `at` bytes.
 #[inline(always)]
 pub fn cell_ok(line: &[u8], at: usize, c: Column, ranges: &[i64]) -> bool
-    requires { T (good_col (col_of c ranges.now [])) × (T (simple_col (col_of c ranges.now [])) × ((T (is_day (col_of c ranges.now [])) → 6 ≤ at) × (at + width_by c ≤ length line.now))) }
+    requires { Within 65536 256 c × T (good_col (col_of c ranges.now [])) × (T (simple_col (col_of c ranges.now [])) × ((T (is_day (col_of c ranges.now [])) → 6 ≤ at) × (at + width_by c ≤ length line.now))) }
     ensures { Judged (col_of c ranges.now []) (slice at (at + width_by c) line.now) (last_day_before line.now at) result }
 {
     match c {

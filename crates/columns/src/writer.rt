@@ -6,7 +6,7 @@ ghost use Rattle.columns.specs.Number.{form_width, good_form};
 ghost use Rattle.columns.specs.Column.{rule_bars, width, slots, texts, good_col, widths};
 ghost use Rattle.columns.specs.Reading.{judge_text};
 ghost use Rattle.columns.specs.Writing.{barred_in, put_number, put_text, write_cell, write_columns, write_line, write_part};
-ghost use Rattle.columns.specs.Table.{col_of, columns_in, slots_by, texts_by, slot_of, slots_of, Wrote, WrotePart, Ready, Table};
+ghost use Rattle.columns.specs.Table.{Within, col_of, columns_in, slots_by, texts_by, slot_of, slots_of, Wrote, WrotePart, Ready, Table};
 
 use super::bytes::{blanks, copy, fill, first_barred, has, is_barred};
 use super::column::{
@@ -118,7 +118,7 @@ fn write_cell(
     text: &[u8],
     t: usize,
 ) -> Result<(), Refusal>
-    requires { Ready (col_of c layout.now.ranges.now layout.now.letters.now) (length out.old) at k (length flags.now) (length values.now) t (length text.now) }
+    requires { Within 65536 256 c × Ready (col_of c layout.now.ranges.now layout.now.letters.now) (length out.old) at k (length flags.now) (length values.now) t (length text.now) }
     ensures { Wrote (write_cell (col_of c layout.now.ranges.now layout.now.letters.now) (take k (slots_of flags.now values.now)) at (take (slots_by c) (drop k (slots_of flags.now values.now))) (take (texts_by c) (drop t text.now))) result out.old out.new }
 {
     match c {
@@ -128,19 +128,17 @@ fn write_cell(
             range,
         } => {
             let v = values[k];
-            let fits = allows(layout.ranges, usize::from(range), flags, values, k, v);
+            let fits = allows(layout.ranges, range, flags, values, k, v);
             put_number(out, at, form, required, fits, flags[k], v)
         }
         Column::Text { width, rule } => put_text(out, at, rule, &text[t..t + width]),
         Column::Letter { first, count } => {
-            let set = layout.set(usize::from(first), usize::from(count));
+            let set = layout.set(first, count);
             put_letter(out, at, set, &text[t..t + 1])
         }
-        Column::Group { number } => {
-            write_group(out, at, group_at(usize::from(number)), flags, values, k)
-        }
+        Column::Group { number } => { write_group(out, at, group_at(number), flags, values, k) }
         Column::Printed { byte, .. } => {
-            fill(out, byte);
+            fill(out, byte as u8);
             Ok(())
         }
     }
@@ -168,7 +166,7 @@ pub fn put_columns(
         let end = at + width_in(c);
         // stretches of blanks are half of the columns of a line: they are looked for first, and take nothing of the record
         if let Column::Printed { byte, .. } = c {
-            fill(&mut out[at..end], byte);
+            fill(&mut out[at..end], byte as u8);
             at = end;
             continue;
         }

@@ -2,11 +2,12 @@
 use mathlib.Core.Path.{◌≡◌, refl, sym, ap, ◌∙◌}
 use mathlib.Core.Bool.{Bool, true, false, ◌&&◌}
 use mathlib.Core.List.{List, [], ◌∷◌, ◌++◌}
-use Prim.Native.Nat.{ℕ, zero, suc, ◌+◌, ◌≤◌, ◌<◌}
+use Prim.Native.Nat.{ℕ, zero, suc, ◌+◌, ◌/◌, ◌%◌, ◌≤◌, ◌<◌}
 use native.Mathlib.Omega.{arith}
 use lib.ListN.{length, take, drop, get_or, length-append, drop_of_length-le}
 use lib.Dec.{leb, eqb, T, leb→le}
 use lib.IntN.{ℤ, pos}
+use borrow.Author.Tests.{ne_eqb}
 use lib.Seq.{take_at, drop_at, drop-cons}
 use native.Mathlib.Numerals.{add-one}
 use Rattle.columns.specs.declared.column.Column.{Column}
@@ -15,7 +16,7 @@ use Rattle.columns.specs.declared.group.Group.{Group}
 use Rattle.columns.specs.Answer.{pick}
 use Rattle.columns.specs.Number.{good_form}
 use Rattle.columns.specs.Column.{Slot, missing, given, Range, Rule, clock_time, calendar_date, Col, numeric, text, group, width, slots, texts, good_group, good_col, good, widths, all_slots, all_texts, in_stretch, brackets_in}
-use Rattle.columns.specs.Table.{column_in, group_at, col_of, columns_of, sizes_of, sound, Sound, width_by, slots_by, texts_by, slot_of, slots_of, flag_of, value_of, flags_of, values_of, over, Table}
+use Rattle.columns.specs.Table.{Within, column_in, rule_at, group_at, col_of, columns_of, sizes_of, sound, Sound, width_by, slots_by, texts_by, slot_of, slots_of, flag_of, value_of, flags_of, values_of, over, Table}
 use Rattle.columns.proofs.laws.Tests.{T_and, and_T}
 use Rattle.columns.specs.declared.column.Column.TheVariants as K
 
@@ -87,6 +88,14 @@ columns_among s r ls a b c e =
     let n : length s ≡ length a + (length b + length c) = sym (columns_length s r ls) ∙ ap length e ∙ length-append a (b ++ c) ∙ omega (arith, length-append b c) in
     (omega arith, columns_take (drop (length a) s) r ls (length b) ∙ ap (take (length b)) (columns_drop s r ls (length a) ∙ ap (drop (length a)) e ∙ drop_at a (b ++ c) (length a) refl) ∙ take_at b c (length b) refl)
 
+-- what is below the bounds of a row is below those of the cursor
+pub wider : (c : Column) → Within 512 128 c → Within 65536 256 c
+wider (K.Number m q k) h = omega arith
+wider (K.Text w x) h = tt
+wider (K.Letter i n) h = (omega (arith, h.0), omega (arith, h.1))
+wider (K.Group k) h = omega arith
+wider (K.Printed w b) h = omega arith
+
 -- a column that is no number has no range
 abbrev pub IsNumber : Column → Type 0
 IsNumber (K.Number m q k) = Unit {0}
@@ -101,6 +110,18 @@ col_other (K.Text w x) rs ls h = refl
 col_other (K.Letter i n) rs ls h = refl
 col_other (K.Group k) rs ls h = refl
 col_other (K.Printed w b) rs ls h = refl
+
+-- nor has that of a row whose kind is no number's
+pub row_other : (row : ℕ) (rs : List ℤ) (ls : List ℕ) → 2 ≤ row / 16777216 → col_of (column_in row) rs ls ≡ col_of (column_in row) [] ls
+row_other row rs ls h =
+    col_other (column_in row) rs ls (rw (ne_eqb (row / 16777216) 0 (λ e. omega arith), ne_eqb (row / 16777216) 1 (λ e. omega arith)) (by_kind (eqb (row / 16777216) 2) (eqb (row / 16777216) 3) (eqb (row / 16777216) 4)))
+  where
+    by_kind : (t u v : Bool)
+        → IsNumber (pick t (K.Text (row / 256 % 128) (rule_at (row % 128))) (pick u (K.Letter (row / 32768 % 512) (row % 128)) (pick v (K.Group (row % 128)) (K.Printed (row / 256 % 128) (row % 128))))) → ⊥
+    by_kind true u v n = n
+    by_kind false true v n = n
+    by_kind false false true n = n
+    by_kind false false false n = n
 
 -- ---- the numbers of a record
 

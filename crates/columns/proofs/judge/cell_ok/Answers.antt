@@ -21,7 +21,7 @@ read_int-field-requires c =
     let w = c.in-Number-Integer-default-default in
     let e : a.c ≡ K.Number (N.Integer w.width) w.required w.range = search rules in
     let p = rw e at c.requires in
-    omega (arith, length-take (a.at + w.width - a.at) (drop a.at a.line.now), (good_int w.width p.0).1)
+    omega (arith, length-take (a.at + w.width - a.at) (drop a.at a.line.now), (good_int w.width p.1).1)
 
 pub number_ok-requires : goal.number_ok-requires
 number_ok-requires c =
@@ -29,14 +29,14 @@ number_ok-requires c =
     let w = c.in-Number-Integer-default-default in
     let e : a.c ≡ K.Number (N.Integer w.width) w.required w.range = search rules in
     let p = rw e at c.requires in
-    (omega (arith, p.1.1.1), λ q. p.1.1.0 (day_looks a.ranges.now w.range q))
+    (omega (arith, p.2.1.1), λ q. p.2.1.0 (day_looks a.ranges.now w.range q), p.0)
 
 pub text_ok-requires : goal.text_ok-requires
 text_ok-requires c =
     let a = c.args in
     let w = c.in-Text in
     let p = rw c.in-Text.is at c.requires in
-    omega (arith, length-take (a.at + w.width - a.at) (drop a.at a.line.now), length-drop a.at a.line.now, good_text w.width w.rule (text w.width w.rule) refl p.0, p.1.1.1)
+    omega (arith, length-take (a.at + w.width - a.at) (drop a.at a.line.now), length-drop a.at a.line.now, good_text w.width w.rule (text w.width w.rule) refl p.1, p.2.1.1)
 
 pub returns-in-Number-Integer-default-default : goal.returns-in-Number-Integer-default-default
 returns-in-Number-Integer-default-default c =

@@ -31,7 +31,7 @@ returns-in-Value c =
 pub returns-in-Value-2 : goal.returns-in-Value-2
 returns-in-Value-2 c =
     let z = to_z-of_z w64 c.in-Value-2.v (search rules) in
-    λ seen k h. rw c.in-Value-2.is (rw (z, c.from.ensures) at (c.in_range_at.ensures seen) ∙ ok_pick _ (one_number (given c.in-Value-2.v)) out_of_range (k + 1))
+    λ seen k h. rw c.in-Value-2.is (rw z at (c.in_range_at.ensures seen) ∙ ok_pick _ (one_number (given c.in-Value-2.v)) out_of_range (k + 1))
 
 pub in_range_at-requires : goal.in_range_at-requires
-in_range_at-requires c = (omega arith, λ e. c.if-range-eq2.false (sym c.from.ensures ∙ e))
+in_range_at-requires c = (c.requires.2, c.if-range-eq2.false)

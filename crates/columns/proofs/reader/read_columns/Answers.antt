@@ -4,7 +4,7 @@ use Prim.Native.Nat.{ℕ, ◌+◌}
 use lib.ListN.{take, drop}
 use Rattle.std.proofs.lemmas.Result.{err_from_is_err_and}
 use Rattle.columns.specs.Table.{columns_in, width_by}
-use Rattle.columns.proofs.laws.Table.{sizes, table_fits, table_k, table_t}
+use Rattle.columns.proofs.laws.Table.{wider, sizes, table_fits, table_k, table_t}
 use Rattle.columns.proofs.laws.Reader.{going_start, going_row, going_last, going_end, turn_readable, turn_storable, turn_refused, turn_done, part_bytes}
 use Rattle.columns.proofs.reader.read_columns.Goals as goal
 
@@ -19,7 +19,7 @@ overflow_add-k c =
     let l = c.loop-row in
     let x = c.column_in-c in
     let w = sizes x.result a.layout.now.ranges.now a.layout.now.letters.now in
-    let g = going_row a.layout.now.rows.now a.layout.now.ranges.now a.layout.now.letters.now l.row-index x.result c.loop-row-test.true x.ensures l.invariant in
+    let g = going_row a.layout.now.rows.now a.layout.now.ranges.now a.layout.now.letters.now l.row-index x.result c.loop-row-test.true x.ensures.0 l.invariant in
     omega (arith, table_k g.ready c.slots_in.result (c.slots_in.ensures ∙ sym w.numbers), c.well_formed)
 
 pub overflow_add-t : goal.overflow_add-t
@@ -28,7 +28,7 @@ overflow_add-t c =
     let l = c.loop-row in
     let x = c.column_in-c in
     let w = sizes x.result a.layout.now.ranges.now a.layout.now.letters.now in
-    let g = going_row a.layout.now.rows.now a.layout.now.ranges.now a.layout.now.letters.now l.row-index x.result c.loop-row-test.true x.ensures l.invariant in
+    let g = going_row a.layout.now.rows.now a.layout.now.ranges.now a.layout.now.letters.now l.row-index x.result c.loop-row-test.true x.ensures.0 l.invariant in
     omega (arith, table_t g.ready c.texts_in.result (c.texts_in.ensures ∙ sym w.chars), c.well_formed)
 
 pub cell-read-requires : goal.cell-read-requires
@@ -37,8 +37,8 @@ cell-read-requires c =
     let l = c.loop-row in
     let x = c.column_in-c in
     let w = sizes x.result a.layout.now.ranges.now a.layout.now.letters.now in
-    let g = going_row a.layout.now.rows.now a.layout.now.ranges.now a.layout.now.letters.now l.row-index x.result c.loop-row-test.true x.ensures l.invariant in
-    turn_readable g
+    let g = going_row a.layout.now.rows.now a.layout.now.ranges.now a.layout.now.letters.now l.row-index x.result c.loop-row-test.true x.ensures.0 l.invariant in
+    (wider x.result x.ensures.1, turn_readable g)
 
 pub slice_bounds-bytes-start : goal.slice_bounds-bytes-start
 slice_bounds-bytes-start c = omega (arith, c.cell-read.ensures.next)
@@ -49,7 +49,7 @@ slice_bounds-bytes-end c =
     let l = c.loop-row in
     let x = c.column_in-c in
     let w = sizes x.result a.layout.now.ranges.now a.layout.now.letters.now in
-    let g = going_row a.layout.now.rows.now a.layout.now.ranges.now a.layout.now.letters.now l.row-index x.result c.loop-row-test.true x.ensures l.invariant in
+    let g = going_row a.layout.now.rows.now a.layout.now.ranges.now a.layout.now.letters.now l.row-index x.result c.loop-row-test.true x.ensures.0 l.invariant in
     omega (arith, c.cell-read.ensures.next, w.wide, table_fits g.ready _ refl)
 
 pub returns-in_err-read : goal.returns-in_err-read
@@ -58,7 +58,7 @@ returns-in_err-read c =
     let l = c.loop-row in
     let x = c.column_in-c in
     let w = sizes x.result a.layout.now.ranges.now a.layout.now.letters.now in
-    let g = going_row a.layout.now.rows.now a.layout.now.ranges.now a.layout.now.letters.now l.row-index x.result c.loop-row-test.true x.ensures l.invariant in
+    let g = going_row a.layout.now.rows.now a.layout.now.ranges.now a.layout.now.letters.now l.row-index x.result c.loop-row-test.true x.ensures.0 l.invariant in
     let p = err_from_is_err_and c.from_residual.result c.from_residual.ensures.1 in
     let b = part_bytes a.line.now l.cursor.at (width_by x.result) in
     rw (p.1, p.2) (turn_refused g _ (ap (λ (m : ℕ). take m (drop l.cursor.at a.line.now)) (b.0 ∙ sym w.wide)) _ (rw (c.in_err-read.was, b.1) at c.cell-read.ensures.answer))
@@ -69,7 +69,7 @@ store-requires c =
     let l = c.loop-row in
     let x = c.column_in-c in
     let w = sizes x.result a.layout.now.ranges.now a.layout.now.letters.now in
-    let g = going_row a.layout.now.rows.now a.layout.now.ranges.now a.layout.now.letters.now l.row-index x.result c.loop-row-test.true x.ensures l.invariant in
+    let g = going_row a.layout.now.rows.now a.layout.now.ranges.now a.layout.now.letters.now l.row-index x.result c.loop-row-test.true x.ensures.0 l.invariant in
     let b = part_bytes a.line.now l.cursor.at (width_by x.result) in
     rw c.cell-read.ensures.next (turn_storable g _ (ap (λ (m : ℕ). take m (drop l.cursor.at a.line.now)) (b.0 ∙ sym w.wide)) c.in_ok-read.field-0 (rw (c.in_ok-read.was, b.1) at c.cell-read.ensures.answer))
 
@@ -79,7 +79,7 @@ loop-row-preserved c =
     let l = c.loop-row in
     let x = c.column_in-c in
     let w = sizes x.result a.layout.now.ranges.now a.layout.now.letters.now in
-    let g = going_row a.layout.now.rows.now a.layout.now.ranges.now a.layout.now.letters.now l.row-index x.result c.loop-row-test.true x.ensures l.invariant in
+    let g = going_row a.layout.now.rows.now a.layout.now.ranges.now a.layout.now.letters.now l.row-index x.result c.loop-row-test.true x.ensures.0 l.invariant in
     let b = part_bytes a.line.now l.cursor.at (width_by x.result) in
     turn_done g _ (ap (λ (m : ℕ). take m (drop l.cursor.at a.line.now)) (b.0 ∙ sym w.wide)) c.in_ok-read.field-0 (rw (c.in_ok-read.was, b.1) at c.cell-read.ensures.answer) _ _ _ (c.cell-read.ensures.next ∙ ap (λ (m : ℕ). l.cursor.at + m) (sym w.wide)) (ap (λ (m : ℕ). l.k + m) (c.slots_in.ensures ∙ sym w.numbers)) (ap (λ (m : ℕ). l.t + m) (c.texts_in.ensures ∙ sym w.chars)) (rw c.cell-read.ensures.next at c.store.ensures)
 

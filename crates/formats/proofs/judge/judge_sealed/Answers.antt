@@ -5,7 +5,7 @@ use mathlib.Core.List.{[]}
 use Prim.Native.Nat.{◌+◌, ◌*◌}
 use lib.ListN.{length}
 use Rattle.columns.specs.Table.{columns_of}
-use Rattle.columns.proofs.laws.Table.{sizes}
+use Rattle.columns.proofs.laws.Table.{wider, sizes}
 use Rattle.columns.proofs.laws.Judge.{left_start, left_row, left_last, left_end, left_good, left_simple, left_room, left_fits, left_refused, left_next}
 use Rattle.formats.proofs.judge.judge_sealed.Goals as goal
 
@@ -19,15 +19,15 @@ cell_ok-requires c =
     let a = c.args in
     let l = c.loop-i in
     let x = c.column_in-c in
-    let g = left_row a.rows.now a.ranges.now [] l.i x.result c.loop-i-test.true x.ensures l.invariant.2 in
-    ((left_good g).0, (left_simple g, (left_room g, omega (arith, left_fits g, (sizes x.result a.ranges.now []).wide))))
+    let g = left_row a.rows.now a.ranges.now [] l.i x.result c.loop-i-test.true x.ensures.0 l.invariant.2 in
+    (wider x.result x.ensures.1, (left_good g).0, (left_simple g, (left_room g, omega (arith, left_fits g, (sizes x.result a.ranges.now []).wide))))
 
 pub returns-then-not-cell_ok : goal.returns-then-not-cell_ok
 returns-then-not-cell_ok c =
     let a = c.args in
     let l = c.loop-i in
     let x = c.column_in-c in
-    let g = left_row a.rows.now a.ranges.now [] l.i x.result c.loop-i-test.true x.ensures l.invariant.2 in
+    let g = left_row a.rows.now a.ranges.now [] l.i x.result c.loop-i-test.true x.ensures.0 l.invariant.2 in
     left_refused g _ (sym (sizes x.result a.ranges.now []).wide) (rw c.if-not-cell_ok.true at c.cell_ok.ensures)
 
 pub loop-i-preserved : goal.loop-i-preserved
@@ -35,7 +35,7 @@ loop-i-preserved c =
     let a = c.args in
     let l = c.loop-i in
     let x = c.column_in-c in
-    let g = left_row a.rows.now a.ranges.now [] l.i x.result c.loop-i-test.true x.ensures l.invariant.2 in
+    let g = left_row a.rows.now a.ranges.now [] l.i x.result c.loop-i-test.true x.ensures.0 l.invariant.2 in
     let z : 3 * l.i + 3 ≡ 3 * (l.i + 1) = omega arith in (
       search rules,
       rw z at c.with_three-sum.ensures ∙ l.invariant.1,
