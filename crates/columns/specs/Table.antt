@@ -46,13 +46,22 @@ abbrev pub column_in : ℕ → Column
 column_in row =
     column_by (row / 16777216) (row / 32768 % 512) (row / 256 % 128) (leb 128 (row % 256)) (row % 128)
 
--- a column whose place is below p and whose last part is below l; a text's rule is one of its own
+-- a column whose letters are from a place below p on, and whose last part is below l; a text's rule is one of its own
 abbrev pub Within : ℕ → ℕ → Column → Type 0
 Within p l (K.Number m q k) = k < l
 Within p l (K.Text w x) = Unit {0}
 Within p l (K.Letter i n) = (i < p) × (n < l)
 Within p l (K.Group k) = k < l
 Within p l (K.Printed w b) = b < l
+
+-- the decimals of a column: those of a decimal's
+abbrev pub decimals_by : Column → ℕ
+decimals_by (K.Number (N.Integer w) q k) = 0
+decimals_by (K.Number (N.Decimal w d) q k) = d
+decimals_by (K.Text w x) = 0
+decimals_by (K.Letter i n) = 0
+decimals_by (K.Group k) = 0
+decimals_by (K.Printed w b) = 0
 
 -- the column that a row stands for, with the ranges and the letters of its table
 abbrev pub col_of : Column → List ℤ → List ℕ → Col

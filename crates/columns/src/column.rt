@@ -3,7 +3,7 @@ ghost use Rattle.std.specs.Prelude.{◌≡◌, List, ◌+◌, ◌-◌, ◌^◌, 
 ghost use Rattle.std.proofs.Math.Seq.{slice};
 ghost use Rattle.columns.specs.Column.{Slot, slot_in, within, last_day_after, allowed};
 ghost use Rattle.columns.specs.Reading.{rule_refuses, rule_number};
-ghost use Rattle.columns.specs.Table.{column_by, column_in, Within, range_at, rule_at, width_by, slots_by, texts_by, slot_of, slots_of};
+ghost use Rattle.columns.specs.Table.{column_by, column_in, Within, decimals_by, range_at, rule_at, width_by, slots_by, texts_by, slot_of, slots_of};
 
 use super::Reason;
 use super::bytes::is_blank;
@@ -174,7 +174,7 @@ impl Column {
 // The column of a row.
 #[inline(always)]
 pub fn column_in(row: u32) -> Column
-    ensures { (result ≡ column_in row) × Within 512 128 result }
+    ensures { (result ≡ column_in row) × Within 512 128 result × (decimals_by result < 512) }
 {
     let place = (row / PLACES % 512) as usize;
     let width = (row / WIDTH % 128) as usize;
