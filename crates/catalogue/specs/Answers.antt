@@ -6,7 +6,7 @@ use Rattle.columns.specs.declared.Reason.TheVariants as Why
 use Rattle.columns.specs.declared.Refusal.{Refusal}
 use Rattle.catalogue.specs.declared.Effect.{Effect}
 use Rattle.catalogue.specs.declared.Effect.TheVariants.{Stored, Replaced, Repeated, Outdated, Removed, Noted, NothingHeld}
-use Rattle.catalogue.specs.declared.decide.Deed.{Deed}
+use Rattle.catalogue.specs.declared.decide.Deed.{Deed as DeedOf}
 use Rattle.catalogue.specs.declared.decide.Deed.TheVariants.{Leave, Hold, Note, Wipe, Link}
 
 -- refusals: a new pair while 512 are named; a catalogue that is not in order
@@ -25,7 +25,7 @@ abbrev pub Call : Type 0
 Call = Result Effect Refusal
 
 -- a refusal of no column
-abbrev pub declined_as : Reason → Call
+abbrev pub declined_as : {E : Type 0} → Reason → Result E Refusal
 declined_as n = Err (refusal_at n 0)
 
 -- the number of what was done
@@ -58,6 +58,10 @@ call_column (Err r) = r.column
 abbrev pub order_number : Result ⊤ Reason → ℕ
 order_number (Ok x) = 0
 order_number (Err n) = number_of n
+
+-- what is decided of a line
+abbrev pub Deed : Type 0
+Deed = DeedOf Effect
 
 -- the answer for what was decided of a line: a deletion noted 25, a held line removed 24
 abbrev pub answered : Deed → Call

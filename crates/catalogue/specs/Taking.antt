@@ -4,12 +4,12 @@ use Rattle.std.proofs.Math.Option.{Option, none, some}
 use Rattle.columns.specs.Answer.{pick}
 use Rattle.formats.specs.Cube.{read_line}
 use Rattle.columns.specs.Bytes.{same_bytes}
-use Rattle.catalogue.specs.declared.decide.Deed.{Deed}
+use Rattle.catalogue.specs.declared.decide.Deed.{Deed as DeedOf}
 use Rattle.catalogue.specs.declared.decide.Deed.TheVariants.{Leave, Hold, Note, Wipe, Link}
 use Rattle.catalogue.specs.declared.decide.Notice.{Notice}
 use Rattle.catalogue.specs.declared.decide.Notice.TheVariants.{Event, Delete, Blank}
 use Rattle.catalogue.specs.declared.Effect.TheVariants.{Stored, Replaced, Repeated, Outdated, NothingHeld}
-use Rattle.catalogue.specs.Answers.{full, links_full, Call, declined_as, answered}
+use Rattle.catalogue.specs.Answers.{full, links_full, Call, Deed, declined_as, answered}
 use Rattle.catalogue.specs.Assoc.{find, put, remove}
 use Rattle.catalogue.specs.Line.{Kind, event, delete, blank, link, refused, kind, refusal_in, version, key, deletion, deletion_key, deletion_version, triple_key, link_entry, link_key, link_version}
 use Rattle.catalogue.specs.Catalogue.{Catalogue, with_held, with_deletions, with_links, named}
@@ -41,14 +41,14 @@ decide Delete l d h = pick (covered d (version l)) (Leave (Ok Outdated)) (over_d
 decide Blank l d h = over_blank h
 
 -- a pair that would be new where 512 are named: 12, not where 26 answers
-unfoldable pub declined : Deed → Deed
+unfoldable pub declined : {E : Type 0} → DeedOf E → DeedOf E
 declined (Leave n) = Leave n
 declined (Hold n) = Leave (declined_as full)
 declined (Note v) = Leave (declined_as full)
 declined (Wipe v) = Leave (declined_as full)
 declined (Link n) = Leave (declined_as full)
 
-unfoldable pub limited : ℕ → Option (List ℕ) → Option (List ℕ) → Deed → Deed
+unfoldable pub limited : {E : Type 0} → ℕ → Option (List ℕ) → Option (List ℕ) → DeedOf E → DeedOf E
 limited n none none e = pick (leb 512 n) (declined e) e
 limited n none (some h) e = e
 limited n (some d) h e = e
@@ -64,7 +64,7 @@ over_link e none = Link Stored
 over_link e (some x) = pick (ltb (link_version e) (link_version x)) (Leave (Ok Outdated)) (pick (same_bytes e x) (Leave (Ok Repeated)) (Link Replaced))
 
 -- a triple that would be new where there are 64: 16
-unfoldable pub limited_link : ℕ → Option (List ℕ) → Deed → Deed
+unfoldable pub limited_link : {E : Type 0} → ℕ → Option (List ℕ) → DeedOf E → DeedOf E
 limited_link n none e = pick (leb 64 n) (Leave (declined_as links_full)) e
 limited_link n (some x) e = e
 

@@ -14,14 +14,15 @@ use columns::bytes::same;
 use columns::{Reason, Refusal};
 
 // What a line does: nothing, with an answer; the line is held, with an answer; its pair's deletion becomes a version; its held line goes
-// besides; the line is stored among the links, with an answer.
+// besides; the line is stored among the links, with an answer. E is what an answer says was done: `Effect`, and any other for what bars a
+// new pair or a new link, which never looks at it.
 #[derive(Clone, Copy)]
-pub enum Deed {
-    Leave(Result<Effect, Refusal>),
-    Hold(Effect),
+pub enum Deed<E> {
+    Leave(Result<E, Refusal>),
+    Hold(E),
     Note(u8),
     Wipe(u8),
-    Link(Effect),
+    Link(E),
 }
 
 // An acceptable line about a pair: an event, a delete with a version, a delete with a blank one.
@@ -92,7 +93,7 @@ fn covered(deletions: &Entries, seek: Result<usize, usize>, v: u8) -> bool
 
 // An event that no deletion covers.
 #[tactic(auto, unfolding(crate::specs::Taking::over_held, crate::specs::Line::version))]
-fn over_held(held: &Entries, seek: Result<usize, usize>, line: &[u8]) -> Deed
+fn over_held(held: &Entries, seek: Result<usize, usize>, line: &[u8]) -> Deed<Effect>
     requires { (held.now.of.size ≡ 80) × IsPlaceOf seek held.now.of.count × (13 ≤ length line.now) }
     ensures { result ≡ over_held line.now (entry_of (entries_of held.now.of held.now.bytes.now) seek) }
 {
@@ -113,7 +114,7 @@ fn over_held(held: &Entries, seek: Result<usize, usize>, line: &[u8]) -> Deed
 
 // A delete of a version that no deletion covers.
 #[tactic(auto, unfolding(crate::specs::Taking::over_deleted, crate::specs::Line::version))]
-fn over_deleted(held: &Entries, seek: Result<usize, usize>, v: u8) -> Deed
+fn over_deleted(held: &Entries, seek: Result<usize, usize>, v: u8) -> Deed<Effect>
     requires { (held.now.of.size ≡ 80) × IsPlaceOf seek held.now.of.count }
     ensures { result ≡ over_deleted v (entry_of (entries_of held.now.of held.now.bytes.now) seek) }
 {
@@ -131,7 +132,7 @@ fn over_deleted(held: &Entries, seek: Result<usize, usize>, v: u8) -> Deed
 
 // A delete with a blank version.
 #[tactic(auto, unfolding(crate::specs::Taking::over_blank, crate::specs::Line::version))]
-fn over_blank(held: &Entries, seek: Result<usize, usize>) -> Deed
+fn over_blank(held: &Entries, seek: Result<usize, usize>) -> Deed<Effect>
     requires { (held.now.of.size ≡ 80) × IsPlaceOf seek held.now.of.count }
     ensures { result ≡ over_blank (entry_of (entries_of held.now.of held.now.bytes.now) seek) }
 {
@@ -143,7 +144,7 @@ fn over_blank(held: &Entries, seek: Result<usize, usize>) -> Deed
 
 // What a line does, by what was found.
 #[tactic(auto, unfolding(crate::specs::Taking::decide, crate::specs::Line::version))]
-pub fn decide(room: &[u8], f: Findings, notice: Notice, line: &[u8]) -> Deed
+pub fn decide(room: &[u8], f: Findings, notice: Notice, line: &[u8]) -> Deed<Effect>
     requires { Placed room.now f × (13 ≤ length line.now) }
     ensures { result ≡ decide_by notice line.now (entry_of (entries_of f.deletions room.now) f.in_deletions) (entry_of (entries_of f.held room.now) f.in_held) }
 {
@@ -168,7 +169,7 @@ pub fn decide(room: &[u8], f: Findings, notice: Notice, line: &[u8]) -> Deed
 
 // A new pair has no room: nothing is done, and a line that would do something is answered so.
 #[tactic(auto, unfolding(crate::specs::Taking::declined))]
-fn declined(deed: Deed) -> Deed
+fn declined<E: Copy>(deed: Deed<E>) -> Deed<E>
     ensures { result ≡ declined_by deed }
 {
     match deed {
@@ -181,12 +182,12 @@ fn declined(deed: Deed) -> Deed
 
 // A new pair needs room.
 #[tactic(auto, unfolding(crate::specs::Taking::limited))]
-pub fn limited(
+pub fn limited<E: Copy>(
     named: usize,
     in_deletions: Result<usize, usize>,
     in_held: Result<usize, usize>,
-    deed: Deed,
-) -> Deed
+    deed: Deed<E>,
+) -> Deed<E>
     ensures { (ds hs : List (List ℕ)) → result ≡ limited_to named (entry_of ds in_deletions) (entry_of hs in_held) deed }
 {
     match (in_deletions, in_held) {

@@ -33,7 +33,7 @@ pub fn link_entry(line: &[u8]) -> [u8; 256]
 
 // What a link does, by what is found of its triple; `entry` has its bytes.
 #[tactic(auto, using(crate::proofs::laws::room::Linked::version_at), unfolding(crate::specs::Taking::over_link))]
-pub fn over_link(links: &Entries, seek: Result<usize, usize>, entry: &[u8]) -> Deed
+pub fn over_link(links: &Entries, seek: Result<usize, usize>, entry: &[u8]) -> Deed<Effect>
     requires { (links.now.of.size ≡ 256) × IsPlaceOf seek links.now.of.count × (length entry.now ≡ 256) }
     ensures { result ≡ over_link entry.now (entry_of (entries_of links.now.of links.now.bytes.now) seek) }
 {
@@ -54,7 +54,7 @@ pub fn over_link(links: &Entries, seek: Result<usize, usize>, entry: &[u8]) -> D
 
 // A new triple needs room.
 #[tactic(auto, unfolding(crate::specs::Taking::limited_link))]
-pub fn limited_link(count: usize, seek: Result<usize, usize>, deed: Deed) -> Deed
+pub fn limited_link<E: Copy>(count: usize, seek: Result<usize, usize>, deed: Deed<E>) -> Deed<E>
     ensures { (ks : List (List ℕ)) → result ≡ limited_link count (entry_of ks seek) deed }
 {
     if seek.is_err() && LINKS <= count {
@@ -69,7 +69,7 @@ pub fn store_link(
     room: &mut [u8],
     links: Section,
     seek: Result<usize, usize>,
-    deed: Deed,
+    deed: Deed<Effect>,
     line: &[u8],
     entry: &[u8],
 )

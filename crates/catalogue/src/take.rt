@@ -71,7 +71,7 @@ fn wipe(room: &mut [u8], f: Findings, v: u8, line: &[u8])
 }
 
 // Does what was decided of a line about a pair.
-fn carry_out(room: &mut [u8], f: Findings, deed: Deed, line: &[u8])
+fn carry_out(room: &mut [u8], f: Findings, deed: Deed<Effect>, line: &[u8])
     requires { Ordered room.old × Known room.old line.now f × (deed ≡ deed_of (contents room.old) line.now) × (kind line.now ≡ link → ⊥) }
     ensures { room.new ≡ room_after room.old line.now }
 {
@@ -88,7 +88,7 @@ fn carry_out(room: &mut [u8], f: Findings, deed: Deed, line: &[u8])
 }
 
 // What is answered for a deed.
-fn answer_of(deed: Deed) -> Result<Effect, Refusal>
+fn answer_of(deed: Deed<Effect>) -> Result<Effect, Refusal>
     ensures { result ≡ answered deed }
 {
     match deed {
@@ -116,7 +116,7 @@ fn one_more(
 
 // How many pairs are named after a deed.
 fn named_after(
-    deed: Deed,
+    deed: Deed<Effect>,
     in_held: Result<usize, usize>,
     in_deletions: Result<usize, usize>,
     named: usize,

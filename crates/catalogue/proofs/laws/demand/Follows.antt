@@ -13,7 +13,7 @@ use Rattle.catalogue.specs.Line.{Kind, event, delete, blank, link, refused, kind
 use Rattle.catalogue.specs.Catalogue.{Catalogue, empty, named}
 use Rattle.catalogue.specs.Taking.{decide, done, over_link, link_deed, deed_of, step, run}
 use Rattle.catalogue.specs.Findings.{notice_kind}
-use Rattle.catalogue.specs.declared.decide.Deed.{Deed}
+use Rattle.catalogue.specs.Answers.{Deed}
 use Rattle.catalogue.specs.declared.decide.Notice.{Notice}
 use Rattle.catalogue.specs.declared.decide.Notice.TheVariants.{Event, Delete}
 use Rattle.catalogue.specs.FromSet.{Of}

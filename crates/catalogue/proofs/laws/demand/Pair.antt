@@ -9,7 +9,7 @@ use borrow.Author.Tests.{ltb-true, ltb-false, leb-true, leb-false, lt-ltb, le-lt
 use Rattle.columns.specs.Answer.{pick}
 use Rattle.columns.specs.Bytes.{same_bytes}
 use Rattle.columns.proofs.laws.Bytes.{same_is}
-use Rattle.catalogue.specs.declared.decide.Deed.{Deed}
+use Rattle.catalogue.specs.Answers.{Deed}
 use Rattle.catalogue.specs.declared.decide.Deed.TheVariants.{Leave, Hold, Note, Wipe, Link}
 use Rattle.catalogue.specs.declared.decide.Notice.TheVariants.{Event, Delete}
 use Rattle.std.specs.Prelude.{Ok}

@@ -15,14 +15,13 @@ use Rattle.formats.specs.declared.cube.Parts.TheVariants as P
 use Rattle.columns.specs.declared.Refusal.{Refusal}
 use Rattle.formats.proofs.laws.CubeFields.{delete_version}
 use Rattle.formats.proofs.laws.CubeThere.{was_there}
-use Rattle.catalogue.specs.declared.decide.Deed.{Deed}
+use Rattle.catalogue.specs.Answers.{Deed, answered}
 use Rattle.catalogue.specs.declared.decide.Deed.TheVariants.{Leave, Hold, Note, Wipe, Link}
 use Rattle.catalogue.specs.declared.decide.Notice.{Notice}
 use Rattle.catalogue.specs.declared.decide.Notice.TheVariants.{Blank}
 use Rattle.catalogue.specs.declared.decide.Notice.TheVariants as N
 use Rattle.catalogue.specs.declared.decide.Findings.{Findings}
 use Rattle.catalogue.specs.declared.take.Receipt.{Receipt}
-use Rattle.catalogue.specs.Answers.{answered}
 use Rattle.catalogue.specs.Line.{Acceptable, event, delete, blank, link, kind_of, kind, refusal_in, key, deletion_key}
 use Rattle.catalogue.specs.Catalogue.{only_held, named}
 use Rattle.catalogue.specs.Taking.{decide, limited, deed_of, done, step}

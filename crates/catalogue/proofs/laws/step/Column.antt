@@ -10,11 +10,10 @@ use Rattle.columns.specs.Bytes.{same_bytes}
 use Rattle.columns.proofs.laws.Bounds.{column_of}
 use Rattle.formats.specs.Cube.{Message, read_line}
 use Rattle.formats.proofs.laws.CubeRecordBack.{line_bound}
-use Rattle.catalogue.specs.declared.decide.Deed.{Deed}
+use Rattle.catalogue.specs.Answers.{Deed, call_column, answered}
 use Rattle.catalogue.specs.declared.decide.Deed.TheVariants.{Leave, Hold, Note, Wipe, Link}
 use Rattle.catalogue.specs.declared.decide.Notice.{Notice}
 use Rattle.catalogue.specs.declared.decide.Notice.TheVariants.{Event, Delete, Blank}
-use Rattle.catalogue.specs.Answers.{call_column, answered}
 use Rattle.catalogue.specs.Line.{Kind, event, delete, blank, link, refused, kind, refusal_in, version, link_version, link_entry}
 use Rattle.catalogue.specs.Catalogue.{Catalogue}
 use Rattle.catalogue.specs.Taking.{covered, over_held, over_deleted, over_blank, decide, declined, limited, pair_deed, over_link, limited_link, link_deed, deed_by, deed_of, done, step}

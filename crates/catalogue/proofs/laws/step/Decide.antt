@@ -9,7 +9,8 @@ use Rattle.columns.specs.Answer.{pick}
 use borrow.Author.Tests.{lt-ltb, le-leb, lt-leb}
 use Rattle.formats.specs.Cube.{read_line}
 use Rattle.columns.specs.Bytes.{same_bytes}
-use Rattle.catalogue.specs.declared.decide.Deed.{Deed}
+use Rattle.catalogue.specs.Answers.{Deed}
+use Rattle.catalogue.specs.declared.decide.Deed.{Deed as DeedOf}
 use Rattle.catalogue.specs.declared.decide.Deed.TheVariants.{Leave, Hold, Note, Wipe, Link}
 use Rattle.catalogue.specs.declared.decide.Notice.{Notice}
 use Rattle.catalogue.specs.declared.decide.Notice.TheVariants.{Event, Delete, Blank}
@@ -40,13 +41,13 @@ over_held_plain l (some h) =
     (λ b. pick_by Plain (same_bytes l h) (Leave (Ok Repeated)) (Hold Replaced) (λ t. tt) (λ t. tt))
 
 -- a pair that is known, or finds room
-pub limited_open : (n : ℕ) (e : Deed) (d h : Option (List ℕ)) → (d ≡ none → h ≡ none → n < 512) → limited n d h e ≡ e
+pub limited_open : {E : Type 0} (n : ℕ) (e : DeedOf E) (d h : Option (List ℕ)) → (d ≡ none → h ≡ none → n < 512) → limited n d h e ≡ e
 unfolding limited
 limited_open n e none none f = rw (lt-leb 512 n (f refl refl))
 limited_open n e none (some h) f = refl
 limited_open n e (some d) h f = refl
 
-pub limited_link_open : (n : ℕ) (e : Deed) (o : Option (List ℕ)) → (o ≡ none → n < 64) → limited_link n o e ≡ e
+pub limited_link_open : {E : Type 0} (n : ℕ) (e : DeedOf E) (o : Option (List ℕ)) → (o ≡ none → n < 64) → limited_link n o e ≡ e
 unfolding limited_link
 limited_link_open n e none f = rw (lt-leb 64 n (f refl))
 limited_link_open n e (some x) f = refl

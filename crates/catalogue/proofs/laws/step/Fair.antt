@@ -11,14 +11,13 @@ use lib.ListN.{length}
 use borrow.Author.Tests.{leb-false}
 use Rattle.columns.specs.Answer.{pick}
 use Rattle.columns.specs.Bytes.{same_bytes}
-use Rattle.catalogue.specs.declared.decide.Deed.{Deed}
+use Rattle.catalogue.specs.Answers.{Deed, links_full, declined_as}
 use Rattle.catalogue.specs.declared.decide.Deed.TheVariants.{Leave, Hold, Note, Wipe, Link}
 use Rattle.catalogue.specs.declared.decide.Notice.{Notice}
 use Rattle.catalogue.specs.declared.decide.Notice.TheVariants.{Event, Delete, Blank}
 use Rattle.std.specs.Prelude.{Ok}
 use Rattle.catalogue.specs.declared.Effect.{Effect}
 use Rattle.catalogue.specs.declared.Effect.TheVariants.{Stored, Replaced, Repeated, Outdated}
-use Rattle.catalogue.specs.Answers.{links_full, declined_as}
 use Rattle.catalogue.specs.Assoc.{find}
 use Rattle.catalogue.specs.Line.{Kind, event, delete, blank, link, refused, kind, Acceptable, version, key, deletion_key, deletion_version, triple_key, link_entry, link_key, link_version}
 use Rattle.catalogue.specs.Catalogue.{Catalogue, named}
