@@ -1,31 +1,15 @@
 // What the program prints: answers, and the values of a record by name. docs/RECORDS.md has the places of its bytes.
 use super::names::Names;
-use columns::Refusal;
 use columns::word::read_word;
-use formats::LineRefusal;
-use formats::block::Counts;
 use formats::record::signed_of;
 use std::io;
 
-// What is answered for a block; 0 where there is nothing.
-pub fn say_counts(
-    rt: &impl Print,
-    names: &Names,
-    outcome: Result<Counts, LineRefusal>,
-) -> io::Result<()> {
-    let (answer, column, line) = match outcome {
-        Ok(_) => (0, 0, 0),
-        Err(refusal) => (u8::from(refusal.reason), refusal.column, refusal.line),
-    };
-    let none = Counts {
-        rows: 0,
-        comments: 0,
-        used: 0,
-    };
-    let counts = outcome.unwrap_or(none);
+// What is answered for a block: the answer, its column and line, and the counts.
+pub fn say_counts(rt: &impl Print, names: &Names, numbers: &[usize; 6]) -> io::Result<()> {
+    let [answer, column, line, rows, comments, used] = *numbers;
     println!(rt; "answer {answer}\ncolumn {column}\nline {line}")?;
-    println!(rt; "{} {}", names.rows, counts.rows)?;
-    println!(rt; "comments {}\nbytes used {}", counts.comments, counts.used)
+    println!(rt; "{} {rows}", names.rows)?;
+    println!(rt; "comments {comments}\nbytes used {used}")
 }
 
 // The texts of a record, in quotes.
@@ -56,18 +40,15 @@ fn say_numbers(rt: &impl Print, names: &Names, flags: &[u8], values: &[u8]) -> i
     Ok(())
 }
 
-// A line by its number in a block: the answer, and the record, its kind, the flags of its numbers, the numbers and the texts.
+// A line by its number in a block: the answer and its column, and the record, its kind, the flags of its numbers, the numbers and the texts.
 pub fn say_row(
     rt: &impl Print,
     names: &Names,
     number: usize,
-    outcome: Result<usize, Refusal>,
+    answer: &[usize; 2],
     record: &[u8; 240],
 ) -> io::Result<()> {
-    let (answer, column) = match outcome {
-        Ok(_) => (0, 0),
-        Err(refusal) => (u8::from(refusal.reason), refusal.column),
-    };
+    let [answer, column] = *answer;
     println!(rt;
         "{} line {number}\nanswer {answer}\ncolumn {column}",
         names.row

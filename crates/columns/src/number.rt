@@ -143,7 +143,8 @@ fn quick(s: &[u8]) -> Plain
     }
 }
 
-// The integer field that `s` is, whatever it holds.
+// The integer field that `s` is, whatever it holds. Kept out of its callers: laid into `read_int`, it makes a jump by a table of the widths there.
+#[inline(never)]
 pub fn read_any_int(s: &[u8]) -> Field
     requires { length s.now ≤ 18 }
     ensures { result ≡ int_field s.now }

@@ -9,7 +9,7 @@ ghost use Rattle.formats.specs.BlockSteps.{step_of};
 use super::LineRefusal;
 use super::block_line::{begins_comment, judge_comment, trimmed};
 use super::block_reader::line_from;
-use super::header::put_header;
+use super::header::header_words;
 use super::row::judge_row;
 use columns::bytes::same;
 use columns::{Reason, Refusal};
@@ -26,10 +26,7 @@ pub struct Counts {
 pub fn is_header(kind: u8, line: &[u8]) -> bool
     ensures { result ≡ is_header (header_of kind) line.now }
 {
-    let n = trimmed(line);
-    let mut words = [0u8; 256];
-    let m = put_header(kind, &mut words);
-    same(&line[0..n], &words[0..m])
+    same(&line[..trimmed(line)], header_words(kind))
 }
 
 // A line after the header, with the rows and comments before it: those with it, or none where it closes the block.

@@ -110,12 +110,12 @@ pub fn read_cards(run: &[u8], counts: &mut [u8]) -> Result<usize, LineRefusal>
 pub fn first_card(run: &[u8]) -> BlockLine
     ensures { result ≡ first_told cards run.now }
 {
-    first_told(CARDS, run)
+    first_told(&ALL, run)
 }
 
 // The card after one that was met.
 pub fn next_card(run: &[u8], before: BlockLine) -> BlockLine
     ensures { result ≡ next_told cards run.now before }
 {
-    next_told(CARDS, run, before)
+    next_told(&ALL, run, before)
 }

@@ -1,9 +1,10 @@
 // Lines by their first letter: the kinds of lines, which of them may come where, and a line alone read and written.
-ghost use Rattle.std.specs.Prelude.{◌≡◌, ◌∷◌, ◌==◌, length, find};
+ghost use Rattle.std.specs.Prelude.{◌≡◌, [], ◌∷◌, ◌==◌, length, find, MatchOption};
+ghost use Rattle.columns.specs.Answer.{refusal, bad_form};
 ghost use Rattle.columns.specs.Table.{outcome_of};
 ghost use Rattle.formats.specs.Record.{Replied};
 ghost use Rattle.formats.specs.Format.{format_of};
-ghost use Rattle.formats.specs.Lettered.{lettered_of, leading, kind_in, read_placed, read_lettered_into, write_lettered};
+ghost use Rattle.formats.specs.Lettered.{Lettered, kinds_of, lettered_of, leading, kind_in, read_placed, read_lettered_into, write_lettered};
 ghost use Rattle.formats.specs.BlockWriting.{RepliedFrom};
 ghost use Rattle.formats.specs.RunWriting.{lettered_call};
 ghost use Rattle.formats.specs.RunSteps.{as_kind};
@@ -87,7 +88,18 @@ pub fn read_lettered_into(
     read_row_into(lead_of(kinds, line)?.kind, line, out)
 }
 
-impl Kinds<'_> {
+impl<'a> Kinds<'a> {
+    // Some kinds, of which the first opens an event; none of none.
+    pub fn of(kinds: &'a [LineKind]) -> Option<Kinds<'a>>
+        ensures { MatchOption result (kinds.now ≡ []) (λ k. kinds.now ≡ k.opener ∷ k.others.now) }
+    {
+        let (opener, others) = kinds.split_first()?;
+        Some(Kinds {
+            opener: *opener,
+            others,
+        })
+    }
+
     // The kind that a letter names.
     pub fn named(self, letter: u8) -> Option<LineKind>
         ensures { result ≡ find (λ (k : LineKind). letter == k.letter) (self.entry.opener ∷ self.entry.others.now) }
@@ -139,5 +151,33 @@ impl Kinds<'_> {
         ensures { RepliedFrom at (lettered_call (lettered_of self.entry.opener self.entry.others.now) from.now at (length out.old)) result out.old out.new }
     {
         write_record(self.kind_in(from).kind, from, out, at)
+    }
+}
+
+// A line written from the record of its kind, of kinds in any number, as `Kinds` does; of none, no bytes are a record. Nothing is changed
+// where it is refused.
+pub fn write_lettered(kinds: &[LineKind], from: &[u8], out: &mut [u8]) -> Result<usize, Refusal>
+    ensures some { (L : Lettered) → kinds.now ≡ kinds_of L → Replied (write_lettered L from.now (length out.old)) result out.old out.new }
+    ensures none { kinds.now ≡ [] → Replied (refusal bad_form 0) result out.old out.new }
+{
+    match Kinds::of(kinds) {
+        Some(kinds) => kinds.write_lettered(from, out),
+        None => Err(Reason::Form.at(0)),
+    }
+}
+
+// The same with a newline, from place `at` of `out` on; answers the place after it.
+pub fn write_lettered_record(
+    kinds: &[LineKind],
+    from: &[u8],
+    out: &mut [u8],
+    at: usize,
+) -> Result<usize, Refusal>
+    ensures some { (L : Lettered) → kinds.now ≡ kinds_of L → RepliedFrom at (lettered_call L from.now at (length out.old)) result out.old out.new }
+    ensures none { kinds.now ≡ [] → RepliedFrom at (refusal bad_form 0) result out.old out.new }
+{
+    match Kinds::of(kinds) {
+        Some(kinds) => kinds.write_lettered_record(from, out, at),
+        None => Err(Reason::Form.at(0)),
     }
 }

@@ -20,8 +20,11 @@ unfoldable pub heading : List ℕ
 heading = 108 ∷ 105 ∷ 110 ∷ 101 ∷ 32 ∷ 97 ∷ 110 ∷ 115 ∷ 119 ∷ 101 ∷ 114 ∷ 32 ∷ 99 ∷ 111 ∷ 108 ∷ 117 ∷ 109 ∷ 110 ∷ 10 ∷ []
 
 -- a line's number, the number answered and the column
-unfoldable pub answer_line : ℕ → Call → List ℕ
-answer_line n c = decimal n ++ (32 ∷ decimal (call_number c) ++ (32 ∷ decimal (call_column c) ++ (10 ∷ [])))
+unfoldable pub printed_line : ℕ → ℕ → ℕ → List ℕ
+printed_line n a c = decimal n ++ (32 ∷ decimal a ++ (32 ∷ decimal c ++ (10 ∷ [])))
+
+abbrev pub answer_line : ℕ → Call → List ℕ
+answer_line n c = printed_line n (call_number c) (call_column c)
 
 -- one answer for each line, each line taken into the room as the last one left it; n lines stood before them
 unfoldable pub answers : ℕ → List ℕ → List (List ℕ) → List ℕ

@@ -8,9 +8,9 @@ ghost use Rattle.take.specs.Steps.{most_lines, Answered, Stepped, Closed};
 
 use super::page::Page;
 use super::text::put_answer;
-use catalogue::ROOM;
 use catalogue::splice::copy_in;
 use catalogue::take::take_ordered;
+use catalogue::{ROOM, column_of, number_of};
 use formats::lines::line_end;
 use std::marker::Model;
 
@@ -36,28 +36,44 @@ impl Model for Intake {
 }
 
 // Takes a line into the room, which names so many pairs, and puts its answer; answers how many it names then.
-fn answer(room: &mut [u8], out: &mut Page, number: u64, named: usize, line: &[u8]) -> usize
-    requires { Ordered room.old × (named ≡ named_of (contents room.old)) × (length out.old + 63 ≤ 65536) }
+fn answer<const N: usize>(
+    room: &mut [u8],
+    out: &mut Page<N>,
+    number: u64,
+    named: usize,
+    line: &[u8],
+) -> usize
+    requires { Ordered room.old × (named ≡ named_of (contents room.old)) × (length out.old + 63 ≤ N) }
     ensures { Answered room.old out.old number line.now room.new out.new result }
 {
     let taken = take_ordered(room, named, line);
-    put_answer(out, number, taken.call);
+    put_answer(out, number, number_of(taken.call), column_of(taken.call));
     taken.named
 }
 
 impl Intake {
+    // A room in order that names so many pairs, what has come of a line that is not ended, and how many lines were taken before it.
+    pub fn resumed(room: [u8; ROOM], named: usize, part: &[u8], number: u64) -> Self
+        requires { Ordered room × (named ≡ named_of (contents room)) × (length part.now ≤ 1024) }
+        ensures { result ≡ record { room = room; line = part.now; number = number } }
+    {
+        let mut line = [0; LINE];
+        copy_in(&mut line, 0, part);
+        Intake {
+            room,
+            line,
+            len: part.len(),
+            number,
+            named,
+        }
+    }
+
     // An empty room, and nothing has come of the input.
     #[tactic(auto, unfolding(crate::specs::Session::opened))]
     pub fn new() -> Self
         ensures { result ≡ opened (replicate 62982 0) }
     {
-        Intake {
-            room: [0; ROOM],
-            line: [0; LINE],
-            len: 0,
-            number: 0,
-            named: 0,
-        }
+        Intake::resumed([0; ROOM], 0, &[], 0)
     }
 
     pub fn room(&self) -> &[u8]
@@ -84,8 +100,8 @@ impl Intake {
 
     // Ends the line that is kept.
     #[tactic(auto, unfolding(crate::specs::Session::ended, crate::specs::Session::ended_said))]
-    fn end(&mut self, out: &mut Page)
-        requires { (length out.old + 63 ≤ 65536) × (self.old.number ≤ most_lines) }
+    fn end<const N: usize>(&mut self, out: &mut Page<N>)
+        requires { (length out.old + 63 ≤ N) × (self.old.number ≤ most_lines) }
         ensures { (self.new ≡ ended self.old) × (out.new ≡ out.old ++ ended_said self.old) }
     {
         self.number += 1;
@@ -100,8 +116,8 @@ impl Intake {
     }
 
     // Takes a line that came whole.
-    fn take_whole(&mut self, out: &mut Page, line: &[u8])
-        requires { (length self.old.line ≡ 0) × (length out.old + 63 ≤ 65536) × (self.old.number ≤ most_lines) }
+    fn take_whole<const N: usize>(&mut self, out: &mut Page<N>, line: &[u8])
+        requires { (length self.old.line ≡ 0) × (length out.old + 63 ≤ N) × (self.old.number ≤ most_lines) }
         ensures { (self.new ≡ ended (grown self.old line.now)) × (out.new ≡ out.old ++ ended_said (grown self.old line.now)) }
     {
         let cut = &line[..line.len().min(LINE)];
@@ -111,8 +127,8 @@ impl Intake {
 
     // Takes the next line of the input, or keeps what has come of it where the input's bytes end before it does; answers how many
     // bytes that is.
-    pub fn take_next(&mut self, out: &mut Page, rest: &[u8]) -> usize
-        requires { (0 < length rest.now) × (length out.old + 63 ≤ 65536) × (self.old.number ≤ most_lines) }
+    pub fn take_next<const N: usize>(&mut self, out: &mut Page<N>, rest: &[u8]) -> usize
+        requires { (0 < length rest.now) × (length out.old + 63 ≤ N) × (self.old.number ≤ most_lines) }
         ensures { Stepped self.old out.old rest.now self.new out.new result }
     {
         let end = line_end(rest, 0);
@@ -131,8 +147,8 @@ impl Intake {
 
     // The end of the input: a line that has any bytes is ended.
     #[tactic(auto, unfolding(crate::specs::Session::closed, crate::specs::Session::closed_said))]
-    pub fn close(&mut self, out: &mut Page)
-        requires { (length out.old + 63 ≤ 65536) × (self.old.number ≤ most_lines) }
+    pub fn close<const N: usize>(&mut self, out: &mut Page<N>)
+        requires { (length out.old + 63 ≤ N) × (self.old.number ≤ most_lines) }
         ensures { Closed self.old out.old self.new out.new }
     {
         if !self.is_empty() {

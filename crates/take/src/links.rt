@@ -33,8 +33,8 @@ fn count_shown(links: &Entries) -> usize
 }
 
 // The line of an entry whose link is printed, and a newline; nothing of another.
-fn put_link(out: &mut Page, entry: &[u8])
-    requires { (length entry.now ≡ 256) × (length out.old + 256 ≤ 65536) }
+fn put_link<const N: usize>(out: &mut Page<N>, entry: &[u8])
+    requires { (length entry.now ≡ 256) × (length out.old + 256 ≤ N) }
     ensures { (out.new ≡ out.old ++ row_lines (shown (entry.now ∷ []))) × (length out.new ≤ length out.old + 256) }
 {
     let line = line_of(entry);
@@ -45,8 +45,8 @@ fn put_link(out: &mut Page, entry: &[u8])
 }
 
 // The lines of the links that are printed.
-fn put_shown(out: &mut Page, links: &Entries)
-    requires { (links.now.of.size ≡ 256) × (length out.old + 256 * links.now.of.count ≤ 65536) }
+fn put_shown<const N: usize>(out: &mut Page<N>, links: &Entries)
+    requires { (links.now.of.size ≡ 256) × (length out.old + 256 * links.now.of.count ≤ N) }
     ensures { (out.new ≡ out.old ++ row_lines (shown (entries_of links.now.of links.now.bytes.now))) × (length out.new ≤ length out.old + 256 * links.now.of.count) }
 {
     for i in 0..links.of.count {
@@ -55,8 +55,8 @@ fn put_shown(out: &mut Page, links: &Entries)
 }
 
 // `links`, how many are printed, and their lines.
-pub fn put_links(out: &mut Page, links: &Entries)
-    requires { (links.now.of.size ≡ 256) × (length out.old + 27 + 256 * links.now.of.count ≤ 65536) }
+pub fn put_links<const N: usize>(out: &mut Page<N>, links: &Entries)
+    requires { (links.now.of.size ≡ 256) × (length out.old + 27 + 256 * links.now.of.count ≤ N) }
     ensures { (out.new ≡ out.old ++ section links_title (shown (entries_of links.now.of links.now.bytes.now))) × (length out.new ≤ length out.old + 27 + 256 * links.now.of.count) }
 {
     out.put_bytes(b"links ");

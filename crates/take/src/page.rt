@@ -4,30 +4,27 @@ ghost use Rattle.std.specs.Prelude.{◌≡◌, ℕ, List, [], ◌∷◌, ◌++�
 use catalogue::splice::copy_in;
 use std::marker::Model;
 
-// The most bytes gathered.
-const PAGE: usize = 65536;
-
-// Bytes put one behind another.
+// Bytes put one behind another, at most N.
 #[derive(Drop)]
-pub struct Page {
-    bytes: [u8; PAGE],
+pub struct Page<const N: usize> {
+    bytes: [u8; N],
     len: usize,
 }
 
-impl Model for Page {
+impl<const N: usize> Model for Page<N> {
     ghost Value = { List ℕ };
 
     ghost view = { λ p. take p.len p.bytes };
 
-    ghost invariant = { λ p. p.len ≤ 65536 };
+    ghost invariant = { λ p. p.len ≤ N };
 }
 
-impl Page {
+impl<const N: usize> Page<N> {
     pub fn new() -> Self
         ensures { result ≡ [] }
     {
         Page {
-            bytes: [0; PAGE],
+            bytes: [0; N],
             len: 0,
         }
     }
@@ -52,7 +49,7 @@ impl Page {
     }
 
     pub fn put_byte(&mut self, b: u8)
-        requires { length self.old < 65536 }
+        requires { length self.old < N }
         ensures { self.new ≡ self.old ++ b ∷ [] }
     {
         self.bytes[self.len] = b;
@@ -60,7 +57,7 @@ impl Page {
     }
 
     pub fn put_bytes(&mut self, s: &[u8])
-        requires { length self.old + length s.now ≤ 65536 }
+        requires { length self.old + length s.now ≤ N }
         ensures { self.new ≡ self.old ++ s.now }
     {
         copy_in(&mut self.bytes, self.len, s);

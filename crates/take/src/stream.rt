@@ -9,6 +9,9 @@ use super::text::{put_catalogue, put_heading};
 use std::io;
 use std::io::Read;
 
+// The most bytes gathered.
+pub const PAGE: usize = 65536;
+
 // The most gathered bytes behind which any answer, of at most 63 bytes, still fits.
 const FULL: usize = 65473;
 
@@ -26,7 +29,7 @@ fn complain<R: Eprint>(rt: &R, what: &str, error: io::Error) -> Failed {
 }
 
 // Writes what is gathered.
-fn write_out<R: Print + Eprint>(rt: &R, out: &Page) -> Result<(), Failed> {
+fn write_out<R: Print + Eprint>(rt: &R, out: &Page<PAGE>) -> Result<(), Failed> {
     match rt.write_all(out.written()) {
         Ok(()) => Ok(()),
         Err(error) => Err(complain(rt, "standard output", error)),
@@ -36,7 +39,7 @@ fn write_out<R: Print + Eprint>(rt: &R, out: &Page) -> Result<(), Failed> {
 // Writes what is gathered, unless a write has failed before, and gathers anew.
 fn flush<R: Print + Eprint>(
     rt: &R,
-    out: &mut Page,
+    out: &mut Page<PAGE>,
     before: Result<(), Failed>,
 ) -> Result<(), Failed>
     ensures { out.new ≡ [] }
@@ -52,7 +55,7 @@ fn flush<R: Print + Eprint>(
 // Writes what is gathered where a whole answer may not fit behind it.
 fn make_space<R: Print + Eprint>(
     rt: &R,
-    out: &mut Page,
+    out: &mut Page<PAGE>,
     before: Result<(), Failed>,
 ) -> Result<(), Failed>
     ensures { length out.new + 63 ≤ 65536 }
@@ -68,7 +71,7 @@ fn make_space<R: Print + Eprint>(
 fn take_chunk<R: Print + Eprint>(
     rt: &R,
     intake: &mut Intake,
-    out: &mut Page,
+    out: &mut Page<PAGE>,
     chunk: &[u8],
 ) -> Result<(), Failed>
     requires { intake.old.number + length chunk.now ≤ most_lines }
@@ -91,7 +94,7 @@ fn read_next<R: Print + Eprint, I: Read>(
     input: &mut I,
     intake: &mut Intake,
     chunk: &mut [u8],
-    out: &mut Page,
+    out: &mut Page<PAGE>,
 ) -> (usize, Result<(), Failed>)
     requires { (length chunk.old ≡ 65536) × (intake.old.number + 65536 ≤ most_lines) }
     ensures { Brought intake.old chunk.new result.0 intake.new }
@@ -112,7 +115,7 @@ fn read_all<R: Print + Eprint, I: Read>(
     input: &mut I,
     intake: &mut Intake,
     chunk: &mut [u8],
-    out: &mut Page,
+    out: &mut Page<PAGE>,
 ) -> Result<(), Failed>
     requires { (length chunk.old ≡ 65536) × (intake.old.number ≡ 0) }
     ensures { Passed intake.old intake.new × (intake.new.number ≤ most_lines) }
@@ -130,7 +133,11 @@ fn read_all<R: Print + Eprint, I: Read>(
 }
 
 // Ends the last line, and prints the catalogue, unless a write fails before it.
-fn finish<R: Print + Eprint>(rt: &R, intake: &mut Intake, out: &mut Page) -> Result<(), Failed>
+fn finish<R: Print + Eprint>(
+    rt: &R,
+    intake: &mut Intake,
+    out: &mut Page<PAGE>,
+) -> Result<(), Failed>
     requires { intake.old.number ≤ most_lines }
     ensures { Finished intake.old intake.new out.new }
 {
@@ -142,16 +149,28 @@ fn finish<R: Print + Eprint>(rt: &R, intake: &mut Intake, out: &mut Page) -> Res
     write_out(rt, out)
 }
 
-// The whole run: the heading, each line's answer, the catalogue. Where reading or writing fails, standard error says so, and the
-// catalogue is not printed.
+// A whole run into what is lent: the heading, each line's answer, the catalogue. Where reading or writing fails, standard error says so,
+// and the catalogue is not printed.
+pub fn run_into<R: io::Input + Print + Eprint>(
+    rt: &R,
+    intake: &mut Intake,
+    chunk: &mut [u8],
+    out: &mut Page<PAGE>,
+)
+    requires { (intake.old.number ≡ 0) × (length chunk.old ≡ 65536) × (length out.old ≡ 0) }
+{
+    put_heading(out);
+    let mut input = rt.reader();
+    if read_all(rt, &mut input, intake, chunk, out).is_ok() {
+        let _ = finish(rt, intake, out);
+    }
+}
+
+// The same into an empty room.
 #[tactic(auto, unfolding(crate::specs::Session::opened))]
 pub fn run<R: io::Input + Print + Eprint>(rt: &R) {
     let mut intake = Intake::new();
     let mut chunk = [0u8; 65536];
     let mut out = Page::new();
-    put_heading(&mut out);
-    let mut input = rt.reader();
-    if read_all(rt, &mut input, &mut intake, &mut chunk, &mut out).is_ok() {
-        let _ = finish(rt, &mut intake, &mut out);
-    }
+    run_into(rt, &mut intake, &mut chunk, &mut out);
 }

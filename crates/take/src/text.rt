@@ -3,21 +3,19 @@ ghost use Rattle.std.specs.Prelude.{◌≡◌, [], ◌∷◌, ◌++◌, ◌+◌,
 ghost use Rattle.catalogue.specs.Ordered.{Ordered};
 ghost use Rattle.catalogue.specs.Room.{contents};
 ghost use Rattle.catalogue.specs.Entries.{entries_of};
-ghost use Rattle.take.specs.Text.{digits, decimal, heading, answer_line, row_lines, section, catalogue_text};
+ghost use Rattle.take.specs.Text.{digits, decimal, heading, printed_line, row_lines, section, catalogue_text};
 
 use super::links::put_links;
 use super::page::Page;
 use catalogue::room::{deletions_in, held_in, links_in};
 use catalogue::section::Entries;
-use catalogue::{Effect, column_of, number_of};
-use columns::Refusal;
 
 // The most digits that a number of 64 bits has.
 const DIGITS: usize = 20;
 
 // The digits of a number that has at most `most` of them.
-fn put_digits(out: &mut Page, n: u64, most: usize)
-    requires { (length out.old + most ≤ 65536) × (1 ≤ most) × (n < 10 ^ most) }
+fn put_digits(out: &mut Page<DIGITS>, n: u64, most: usize)
+    requires { (length out.old + most ≤ 20) × (1 ≤ most) × (n < 10 ^ most) }
     ensures { out.new ≡ out.old ++ digits most n }
 {
     if n < 10 {
@@ -28,37 +26,39 @@ fn put_digits(out: &mut Page, n: u64, most: usize)
     out.put_byte(b'0' + (n % 10) as u8);
 }
 
-pub fn put_number(out: &mut Page, n: u64)
-    requires { length out.old + 20 ≤ 65536 }
+pub fn put_number<const N: usize>(out: &mut Page<N>, n: u64)
+    requires { length out.old + 20 ≤ N }
     ensures { (out.new ≡ out.old ++ decimal n) × (length out.new ≤ length out.old + 20) }
 {
-    put_digits(out, n, DIGITS);
+    let mut digits = Page::new();
+    put_digits(&mut digits, n, DIGITS);
+    out.put_bytes(digits.written());
 }
 
 #[tactic(auto, unfolding(crate::specs::Text::heading))]
-pub fn put_heading(out: &mut Page)
-    requires { length out.old + 19 ≤ 65536 }
+pub fn put_heading<const N: usize>(out: &mut Page<N>)
+    requires { length out.old + 19 ≤ N }
     ensures { out.new ≡ out.old ++ heading }
 {
     out.put_bytes(b"line answer column\n");
 }
 
 // A line's number, the number answered and the column.
-pub fn put_answer(out: &mut Page, number: u64, call: Result<Effect, Refusal>)
-    requires { length out.old + 63 ≤ 65536 }
-    ensures { (out.new ≡ out.old ++ answer_line number call) × (length out.new ≤ length out.old + 63) }
+pub fn put_answer<const N: usize>(out: &mut Page<N>, number: u64, answer: u8, column: usize)
+    requires { length out.old + 63 ≤ N }
+    ensures { (out.new ≡ out.old ++ printed_line number answer column) × (length out.new ≤ length out.old + 63) }
 {
     put_number(out, number);
     out.put_byte(b' ');
-    put_number(out, u64::from(number_of(call)));
+    put_number(out, u64::from(answer));
     out.put_byte(b' ');
-    put_number(out, column_of(call) as u64);
+    put_number(out, column as u64);
     out.put_byte(b'\n');
 }
 
 // The entries of a section, each on a line of its own.
-fn put_entries(out: &mut Page, entries: &Entries)
-    requires { length out.old + (entries.now.of.size + 1) * entries.now.of.count ≤ 65536 }
+fn put_entries<const N: usize>(out: &mut Page<N>, entries: &Entries)
+    requires { length out.old + (entries.now.of.size + 1) * entries.now.of.count ≤ N }
     ensures { (out.new ≡ out.old ++ row_lines (entries_of entries.now.of entries.now.bytes.now)) × (length out.new ≡ length out.old + (entries.now.of.size + 1) * entries.now.of.count) }
 {
     for i in 0..entries.of.count {
@@ -68,8 +68,8 @@ fn put_entries(out: &mut Page, entries: &Entries)
 }
 
 // A section: its title and count, then its entries.
-fn put_section(out: &mut Page, title: &[u8], entries: &Entries)
-    requires { length out.old + length title.now + 21 + (entries.now.of.size + 1) * entries.now.of.count ≤ 65536 }
+fn put_section<const N: usize>(out: &mut Page<N>, title: &[u8], entries: &Entries)
+    requires { length out.old + length title.now + 21 + (entries.now.of.size + 1) * entries.now.of.count ≤ N }
     ensures { (out.new ≡ out.old ++ section title.now (entries_of entries.now.of entries.now.bytes.now)) × (length out.new ≤ length out.old + length title.now + 21 + (entries.now.of.size + 1) * entries.now.of.count) }
 {
     out.put_bytes(title);
@@ -79,8 +79,8 @@ fn put_section(out: &mut Page, title: &[u8], entries: &Entries)
 }
 
 // The held lines, the deletions, the links: at most 64,082 bytes.
-pub fn put_catalogue(out: &mut Page, room: &[u8])
-    requires { Ordered room.now × (length out.old + 64082 ≤ 65536) }
+pub fn put_catalogue<const N: usize>(out: &mut Page<N>, room: &[u8])
+    requires { Ordered room.now × (length out.old + 64082 ≤ N) }
     ensures { (out.new ≡ out.old ++ catalogue_text (contents room.now)) × (length out.new ≤ length out.old + 64082) }
 {
     let held = held_in(room);

@@ -46,12 +46,12 @@ pub number_judged : (c : Col) (m : Form) (q : Bool) (g : Range) (f : List ℕ) (
 unfolding read_cell
 number_judged c m q g f d x r e p j = record { accepted = λ seen at h. rw (e, ← p) (j seen at (λ t. h (rw e t))) }
 
-text_pick : (t : Bool) (n : Reason) (k j : ℕ) (f : List ℕ) → is_ok (pick t (refusal n k) (ok f)) ≡ is_ok (as_text (pick t (refusal n j) (ok f)))
-text_pick true n k j f = refl
-text_pick false n k j f = refl
+text_pick : (t : Bool) (n : Reason) (k : ℕ) (m : Reason) (j : ℕ) (f : List ℕ) → is_ok (pick t (refusal n k) (ok f)) ≡ is_ok (as_text (pick t (refusal m j) (ok f)))
+text_pick true n k m j f = refl
+text_pick false n k m j f = refl
 
 text_case : (u : Rule) (at k : ℕ) (f : List ℕ) → is_ok (judge_text u at f (ok f)) ≡ is_ok (as_text (judge_text u k f (ok f)))
-text_case u at k f = text_pick (rule_refuses u f) (rule_number u) _ _ f
+text_case u at k f = text_pick (rule_refuses u f) (rule_number u) _ (rule_number u) _ f
 
 pub text_judged : (c : Col) (w : ℕ) (u : Rule) (at : ℕ) (f : List ℕ) (d : ℕ) (r : Bool) → c ≡ text w u → r ≡ is_ok (judge_text u at f (ok f)) → Judged c f d r
 unfolding read_cell

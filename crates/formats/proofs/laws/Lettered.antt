@@ -2,7 +2,7 @@
 -- answer as the code comes to it.
 use Rattle.std.specs.Prelude.{Ok, Err}
 use Rattle.columns.specs.declared.Refusal.{Refusal}
-use mathlib.Core.Path.{◌≡◌, refl, sym, ap, ◌∙◌}
+use mathlib.Core.Path.{◌≡◌, refl, sym, ap, ap₂, ◌∙◌}
 use mathlib.Core.Bool.{Bool, true, false}
 use mathlib.Core.List.{List, [], ◌∷◌}
 use Prim.Native.Nat.{ℕ, ◌≤◌, ◌<◌}
@@ -26,7 +26,7 @@ use Rattle.formats.specs.declared.lettered.LineKind.{LineKind}
 use Rattle.formats.proofs.laws.Row.{made_passed}
 use Rattle.formats.specs.Row.{Made, too_long, has_barred, well}
 use Rattle.columns.specs.Table.{Outcome}
-use Rattle.formats.specs.Lettered.{Lettered, lettered_of, named, leading, read_placed, read_as, into_record, read_lettered_into, numbered, kind_in, write_lettered}
+use Rattle.formats.specs.Lettered.{Lettered, kinds_of, lettered_of, named, leading, read_placed, read_as, into_record, read_lettered_into, numbered, kind_in, write_lettered}
 use Rattle.formats.specs.RunSteps.{as_kind}
 use Rattle.formats.specs.Record.{Reply}
 use Rattle.formats.proofs.laws.CubeRecord.{replied_refused, replied_as}
@@ -155,6 +155,22 @@ module _ (x : LineKind) (ks : List LineKind) (r : List ℕ) {b : ℕ} (e : b ≡
   pub kind_other : (b ≡ x.kind → ⊥) → {o : Option LineKind} → o ≡ find (numbered_by b) ks → {k : LineKind} → k ≡ unwrap_or o x → k ≡ kind_in (lettered_of x ks) r
   unfolding numbered
   kind_other n f g = g ∙ rw (← e, ne_eqb b x.kind n, f) (numbered_find x ks b)
+
+-- ---- kinds in any number, of which the first opens an event
+
+pub not_none : {ks : List LineKind} {x : LineKind} {xs : List LineKind} → ks ≡ x ∷ xs → ks ≡ [] → ⊥
+not_none e h = let z : ◌≡◌ {A = ℕ} 0 1 = cc in omega arith
+
+module _ (L : Lettered) {ks : List LineKind} (p : ks ≡ kinds_of L) where
+  pub none_opened : ks ≡ [] → ⊥
+  none_opened e = not_none p e
+
+  module _ {x : LineKind} {xs : List LineKind} (e : ks ≡ x ∷ xs) where
+    pub opened : lettered_of x xs ≡ L
+    opened =
+        let a : x ≡ L.opener = cc in
+        let b : xs ≡ L.others = cc in
+        ap₂ lettered_of a b
 
 -- ---- a record written by the format of its kind
 

@@ -1,11 +1,16 @@
-use mathlib.Core.Path.{◌∙◌}
-use Rattle.formats.proofs.laws.RunWalk.{first_long, first_there}
+use mathlib.Core.Path.{ap, ◌∙◌}
+use Rattle.formats.specs.Lettered.{Lettered}
+use Rattle.formats.specs.RunWalk.{first_told}
+use Rattle.formats.proofs.laws.Lettered.{not_none, none_opened, opened}
 use Rattle.formats.proofs.run_walk.first_told.Goals as goal
 
-pub returns-then-run-gt65536 : goal.returns-then-run-gt65536
-returns-then-run-gt65536 c =
-    c.no_line.ensures ∙ rw c.from.ensures (first_long _ _ c.if-run-gt65536.true)
+pub returns-in-None : goal.returns-in-None
+returns-in-None c =
+    record { some = λ L p. absurd (none_opened L p c.in-None.ensures); none = λ e. c.no_line.ensures }
 
-pub returns : goal.returns
-returns c =
-    c.told_at.ensures ∙ first_there _ _ c.if-run-gt65536.false
+pub returns-in-Some : goal.returns-in-Some
+returns-in-Some c =
+    record {
+      some = λ L p. c.first_in.ensures ∙ ap (λ (M : Lettered). first_told M c.args.run.now) (opened L p c.in-Some.ensures);
+      none = λ e. absurd (not_none c.in-Some.ensures e);
+    }

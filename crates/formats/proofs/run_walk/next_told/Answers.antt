@@ -1,15 +1,16 @@
-use mathlib.Core.Path.{◌∙◌}
-use Rattle.formats.proofs.laws.RunWalk.{next_long, next_known, next_unknown}
+use mathlib.Core.Path.{ap, ◌∙◌}
+use Rattle.formats.specs.Lettered.{Lettered}
+use Rattle.formats.specs.RunWalk.{next_told}
+use Rattle.formats.proofs.laws.Lettered.{not_none, none_opened, opened}
 use Rattle.formats.proofs.run_walk.next_told.Goals as goal
-
-pub returns-then-run-gt65536 : goal.returns-then-run-gt65536
-returns-then-run-gt65536 c =
-    c.no_line.ensures ∙ rw c.from.ensures (next_long _ _ _ c.if-run-gt65536.true)
 
 pub returns-in-None : goal.returns-in-None
 returns-in-None c =
-    c.no_line-in-None.ensures ∙ next_unknown _ _ c.if-run-gt65536.false _ c.named.ensures c.in-None.is
+    record { some = λ L p. absurd (none_opened L p c.in-None.ensures); none = λ e. c.no_line.ensures }
 
 pub returns-in-Some : goal.returns-in-Some
 returns-in-Some c =
-    c.told_at.ensures ∙ next_known _ _ c.if-run-gt65536.false _ c.named.ensures c.in-Some.is
+    record {
+      some = λ L p. c.next_in.ensures ∙ ap (λ (M : Lettered). next_told M c.args.run.now c.args.before) (opened L p c.in-Some.ensures);
+      none = λ e. absurd (not_none c.in-Some.ensures e);
+    }

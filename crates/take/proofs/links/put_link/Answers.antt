@@ -5,7 +5,7 @@ use Rattle.take.proofs.laws.Links.{line_says, link_shown, link_put}
 use Rattle.take.proofs.links.put_link.Goals as goal
 
 pub returns-then-not-is_delete : goal.returns-then-not-is_delete
-returns-then-not-is_delete c =
+returns-then-not-is_delete g c =
     let a = c.args in
     let l = c.line_of-line in
     let p = c.put_bytes in
@@ -15,6 +15,6 @@ returns-then-not-is_delete c =
     )
 
 pub returns-else-not-is_delete : goal.returns-else-not-is_delete
-returns-else-not-is_delete c =
+returns-else-not-is_delete g c =
     let a = c.args in
     (link_shown a.out.now a.entry.now (line_says a.entry.now c.line_of-line.ensures.0 c.is_delete.ensures c.if-not-is_delete.false), omega arith)

@@ -7,7 +7,7 @@ use Rattle.take.proofs.links.put_links.Goals as goal
 -- The title, how many are printed, a newline and their lines, one behind the other.
 pub returns : goal.returns
 unfolding section
-returns c =
+returns g c =
     let t = c.put_bytes.ensures in
     let n = c.put_number.ensures in
     let l = c.put_byte.ensures in

@@ -8,7 +8,7 @@ use Rattle.take.proofs.laws.Links.{lines_end, shown_turn}
 use Rattle.take.proofs.links.put_shown.Goals as goal
 
 pub loop-i-preserved : goal.loop-i-preserved
-loop-i-preserved c =
+loop-i-preserved g c =
     let l = c.loop-i in
     let a = c.args.links.now in
     let xs : List (List ℕ) = entries_of a.of a.bytes.now in
@@ -18,7 +18,7 @@ loop-i-preserved c =
     )
 
 pub returns : goal.returns
-returns c =
+returns g c =
     let a = c.args.links.now in
     let l = c.loop-i in
     let i : l.i ≡ a.of.count = omega (arith, c.loop-i-test.false) in (

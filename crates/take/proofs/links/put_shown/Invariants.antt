@@ -9,6 +9,6 @@ use Rattle.take.proofs.links.put_shown.Given as goal
 
 -- Each turn puts a link's line, if it is printed, behind what is put.
 abbrev pub invariant-loop-i : goal.invariant-loop-i
-invariant-loop-i l =
+invariant-loop-i g l =
     (l.out ++ row_lines (shown (drop l.i (entries_of l.links.of l.links.bytes.now))) ≡ l.initial.out ++ row_lines (shown (entries_of l.links.of l.links.bytes.now)))
     × (length l.out ≤ length l.initial.out + 256 * l.i)

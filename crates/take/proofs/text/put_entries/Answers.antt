@@ -9,7 +9,7 @@ use Rattle.catalogue.proofs.laws.section.Rows.{entries_length}
 use Rattle.take.proofs.text.put_entries.Goals as goal
 
 pub loop-i-preserved : goal.loop-i-preserved
-loop-i-preserved c =
+loop-i-preserved g c =
     let e = c.args.entries.now in
     let l = c.loop-i in
     let xs : List (List ℕ) = entries_of e.of e.bytes.now in
@@ -17,7 +17,7 @@ loop-i-preserved c =
     (t.0, omega (arith, t.1, l.invariant.1))
 
 pub returns : goal.returns
-returns c =
+returns g c =
     let e = c.args.entries.now in
     let l = c.loop-i in
     let i : l.i ≡ e.of.count = omega (arith, c.loop-i-test.false) in (

@@ -8,6 +8,6 @@ use Rattle.take.proofs.text.put_entries.Given as goal
 
 -- Each turn puts an entry and a newline behind what is put.
 abbrev pub invariant-loop-i : goal.invariant-loop-i
-invariant-loop-i l =
+invariant-loop-i g l =
     (l.out ++ row_lines (drop l.i (entries_of l.entries.of l.entries.bytes.now)) ≡ l.initial.out ++ row_lines (entries_of l.entries.of l.entries.bytes.now))
     × (length l.out ≡ length l.initial.out + (l.entries.of.size + 1) * l.i)

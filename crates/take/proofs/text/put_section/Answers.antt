@@ -8,7 +8,7 @@ use Rattle.take.proofs.text.put_section.Goals as goal
 -- The title, the count, a newline and the entries, one behind the other.
 pub returns : goal.returns
 unfolding section
-returns c =
+returns g c =
     let a = c.args.entries.now in
     let t = c.put_bytes.ensures in
     let n = c.put_number.ensures in

@@ -3,6 +3,6 @@ use native.Mathlib.Omega.{arith}
 use mathlib.Core.Path.{sym}
 use Rattle.take.proofs.intake.Intake.new.Goals as goal
 
-pub invariant_of-result : goal.invariant_of-result
-invariant_of-result c =
+pub resumed-requires : goal.resumed-requires
+resumed-requires c =
     (zeroed_ordered, sym zeroed_named, omega arith)

@@ -1,3 +1,4 @@
+use Rattle.std.proofs.Common.{rules}
 use Rattle.take.proofs.laws.Steps.{kept, answered}
 use Rattle.take.specs.Session.{Session, grown, ended, ended_said}
 use native.Mathlib.Omega.{arith}
@@ -9,18 +10,18 @@ use Rattle.take.proofs.intake.Intake.take_next.Goals as goal
 use Rattle.take.proofs.intake.Intake.take_next.Goals.{then-is_empty, else-is_empty}
 
 pub returns-then-end-rest : goal.returns-then-end-rest
-returns-then-end-rest c =
+returns-then-end-rest g c =
     let a = c.args in
     let l = c.line_end-end in
     kept a.self.now a.out.now a.rest.now l.result l.ensures.0 l.ensures.2 c.keep.ensures.1 c.requires.0 c.if-end-rest.true c.keep.ensures.0
 
 pub end-requires : goal.end-requires
 unfolding grown
-end-requires c =
-    (c.requires.1, rw c.keep-else-is_empty.ensures.0 c.requires.2)
+end-requires g c =
+    (search rules, (c.requires.1, rw c.keep-else-is_empty.ensures.0 c.requires.2))
 
 pub returns : goal.returns
-returns c =
+returns g c =
     let a = c.args in
     let l = c.line_end-end in
     elim c.if-is_empty.branch [
