@@ -125,6 +125,15 @@ impl<'a> Layout<'a> {
         let end = self.letters.len().min(first + count);
         &self.letters[first.min(end)..end]
     }
+
+    // The same of any place and count.
+    pub fn any_set(&self, first: usize, count: usize) -> &'a [u8]
+        ensures { result.now ≡ slice first (first + count) self.now.letters.now }
+    {
+        let end = self.letters.len().min(first.saturating_add(count));
+        let start = first.min(end);
+        &self.letters[start..end]
+    }
 }
 
 // A rule by its number, of ANY_TEXT to BLANK_OR_FILLED; from there on every number is the last.
@@ -284,6 +293,17 @@ pub fn in_range_at(ranges: &[i64], k: usize, v: i64) -> bool
     }
 }
 
+// A range by a number below 256, and the ranges among which that names what k names among these.
+pub fn near_range(ranges: &[i64], k: usize) -> (usize, &[i64])
+    ensures low { result.0 < 256 }
+    ensures same { range_at result.1.now result.0 ≡ range_at ranges.now k }
+{
+    if k < 256 {
+        return (k, ranges);
+    }
+    (3, &ranges[ranges.len().min(k - 3)..])
+}
+
 // A number of the record.
 fn number_at(flags: &[u8], values: &[i64], i: usize) -> Field
     requires { (i < length flags.now) × (i < length values.now) }
@@ -320,4 +340,37 @@ pub fn allows(ranges: &[i64], k: usize, flags: &[u8], values: &[i64], n: usize, 
         return day_after(flags, values, n, v);
     }
     in_range_at(ranges, k, v)
+}
+
+#[cfg(test)]
+mod tests {
+    use super::*;
+
+    #[test]
+    fn ranges_anywhere(rt: HostRuntime) {
+        let mut ranges = [0; 302];
+        ranges[300] = 5;
+        ranges[301] = 7;
+        let (k, near) = near_range(&ranges, 300);
+        assert_eq!(rt; k, 3);
+        assert!(rt; near == [0, 0, 0, 5, 7].as_slice());
+        let (k, near) = near_range(&ranges, usize::MAX);
+        assert_eq!(rt; k, 3);
+        assert!(rt; near.is_empty());
+        let (k, near) = near_range(&ranges, 2);
+        assert_eq!(rt; k, 2);
+        assert_eq!(rt; near.len(), 302);
+    }
+
+    #[test]
+    fn sets_of_any_place(rt: HostRuntime) {
+        let layout = Layout {
+            rows: &[],
+            ranges: &[],
+            letters: b"abc",
+        };
+        assert!(rt; layout.any_set(1, usize::MAX) == b"bc".as_slice());
+        assert!(rt; layout.any_set(1, 1) == b"b".as_slice());
+        assert!(rt; layout.any_set(usize::MAX, 1).is_empty());
+    }
 }

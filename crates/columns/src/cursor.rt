@@ -9,7 +9,7 @@ ghost use Rattle.columns.specs.Table.{Within, range_at, rule_at, col_of, width_b
 ghost use Rattle.columns.specs.Cell.{cell_answer, Found, Readable};
 
 use super::bytes::{copy_at, has, skip};
-use super::column::{Column, Layout, Rule, allows, rule_at, rule_reason};
+use super::column::{Column, Layout, Rule, allows, near_range, rule_at, rule_reason};
 use super::group::{Group, Three, group_at, group_width, in_group, read_group};
 use super::number::{Field, Form, read_dec, read_int};
 use super::{Reason, Refusal};
@@ -201,7 +201,7 @@ impl Cursor {
     }
 
     // Any column of a table, after the first k numbers of the record.
-    pub fn cell(
+    pub fn cell_within(
         self,
         line: &[u8],
         c: Column,
@@ -243,5 +243,98 @@ impl Cursor {
             }
             Column::Printed { width, byte } => self.printed(line, width, byte as u8),
         }
+    }
+
+    // The same of a column of any parts.
+    pub fn cell(
+        self,
+        line: &[u8],
+        c: Column,
+        layout: &Layout<'_>,
+        flags: &[u8],
+        values: &[i64],
+        k: usize,
+    ) -> Read<Result<Cell, Refusal>>
+        requires { Readable (col_of c layout.now.ranges.now layout.now.letters.now) self.at (length line.now) k (length flags.now) (length values.now) }
+        ensures { Found (read_cell (col_of c layout.now.ranges.now layout.now.letters.now) (take k (slots_of flags.now values.now)) self.at (slice self.at (self.at + width_by c) line.now)) result self.at (width_by c) (slice self.at (self.at + width_by c) line.now) }
+    {
+        match c {
+            Column::Number {
+                form,
+                required,
+                range,
+            } => {
+                let (range, ranges) = near_range(layout.ranges, range);
+                let near = Layout { ranges, ..*layout };
+                let column = Column::Number {
+                    form,
+                    required,
+                    range,
+                };
+                self.cell_within(line, column, &near, flags, values, k)
+            }
+            Column::Letter { first, count } => {
+                let set = layout.any_set(first, count);
+                self.letter(line, set)
+            }
+            Column::Group { number } => {
+                let column = Column::Group {
+                    number: number.min(1),
+                };
+                self.cell_within(line, column, layout, flags, values, k)
+            }
+            _ => self.cell_within(line, c, layout, flags, values, k),
+        }
+    }
+}
+
+#[cfg(test)]
+mod tests {
+    use super::*;
+
+    // What the first column of a line holds.
+    fn first(line: &[u8], c: Column, layout: &Layout<'_>) -> Result<Cell, Refusal>
+        requires { Readable (col_of c layout.now.ranges.now layout.now.letters.now) 0 (length line.now) 0 0 0 }
+    {
+        Cursor { at: 0 }.cell(line, c, layout, &[], &[], 0).value
+    }
+
+    #[test]
+    fn columns_of_any_parts(rt: HostRuntime) {
+        let mut ranges = [0; 302];
+        ranges[300] = 5;
+        ranges[301] = 7;
+        let layout = Layout {
+            rows: &[],
+            ranges: &ranges,
+            letters: b"abc",
+        };
+        let number = Column::Number {
+            form: Form::Integer(2),
+            required: true,
+            range: 300,
+        };
+        assert!(rt; matches!(first(b" 6", number, &layout), Ok(Cell::Number(Some(6)))));
+        assert!(rt; matches!(first(b" 8", number, &layout), Err(e) if e == Reason::Range.at(1)));
+        let letter = Column::Letter {
+            first: 1,
+            count: usize::MAX,
+        };
+        assert!(rt; matches!(first(b"c", letter, &layout), Ok(Cell::Chars)));
+        assert!(rt; matches!(first(b"a", letter, &layout), Err(e) if e == Reason::Letter.at(1)));
+        let group = Column::Group { number: 1000 };
+        assert!(rt;
+            matches!(
+                first(b"2026/12/01", group, &layout),
+                Ok(Cell::Three(2026, 12, 1))
+            )
+        );
+        let printed = Column::Printed { width: 2, byte: 45 };
+        assert!(rt; matches!(first(b"--", printed, &layout), Ok(Cell::Gap)));
+        let text = Column::Text {
+            width: 2,
+            rule: Rule::NotBlankFirst,
+        };
+        assert!(rt; matches!(first(b" a", text, &layout), Err(e) if e == Reason::Required.at(1)));
     }
 }

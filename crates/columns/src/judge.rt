@@ -8,7 +8,7 @@ ghost use Rattle.columns.specs.Table.{Within, range_at, col_of, width_by};
 ghost use Rattle.columns.specs.Judge.{simple_col, is_day, last_day_before, Judged};
 
 use super::calendar::is_day;
-use super::column::{Column, Rule, in_range_at};
+use super::column::{Column, Rule, in_range_at, near_range};
 use super::number::{Field, Form, read_any_int, read_int};
 
 // Text: not where its rule refuses it.
@@ -56,7 +56,7 @@ fn number_ok(
 
 // Whether a column, an integer or text, is accepted after the first `at` bytes.
 #[inline(always)]
-pub fn cell_ok(line: &[u8], at: usize, c: Column, ranges: &[i64]) -> bool
+pub fn cell_ok_within(line: &[u8], at: usize, c: Column, ranges: &[i64]) -> bool
     requires { Within 65536 256 c × T (good_col (col_of c ranges.now [])) × (T (simple_col (col_of c ranges.now [])) × ((T (is_day (col_of c ranges.now [])) → 6 ≤ at) × (at + width_by c ≤ length line.now))) }
     ensures { Judged (col_of c ranges.now []) (slice at (at + width_by c) line.now) (last_day_before line.now at) result }
 {
@@ -71,5 +71,54 @@ pub fn cell_ok(line: &[u8], at: usize, c: Column, ranges: &[i64]) -> bool
         }
         Column::Text { width, rule } => text_ok(&line[at..at + width], rule),
         _ => false,
+    }
+}
+
+// The same of a column whose range stands anywhere.
+pub fn cell_ok(line: &[u8], at: usize, c: Column, ranges: &[i64]) -> bool
+    requires { T (good_col (col_of c ranges.now [])) × (T (simple_col (col_of c ranges.now [])) × ((T (is_day (col_of c ranges.now [])) → 6 ≤ at) × (at + width_by c ≤ length line.now))) }
+    ensures { Judged (col_of c ranges.now []) (slice at (at + width_by c) line.now) (last_day_before line.now at) result }
+{
+    match c {
+        Column::Number {
+            form,
+            required,
+            range,
+        } => {
+            let (range, ranges) = near_range(ranges, range);
+            let near = Column::Number {
+                form,
+                required,
+                range,
+            };
+            cell_ok_within(line, at, near, ranges)
+        }
+        Column::Text { .. } => cell_ok_within(line, at, c, ranges),
+        _ => false,
+    }
+}
+
+#[cfg(test)]
+mod tests {
+    use super::*;
+
+    #[test]
+    fn judged_by_any_range(rt: HostRuntime) {
+        let mut ranges = [0; 302];
+        ranges[300] = 5;
+        ranges[301] = 7;
+        let number = Column::Number {
+            form: Form::Integer(2),
+            required: true,
+            range: 300,
+        };
+        assert!(rt; cell_ok(b"20261206", 6, number, &ranges));
+        assert!(rt; !cell_ok(b"20261208", 6, number, &ranges));
+        let text = Column::Text {
+            width: 2,
+            rule: Rule::NotBlankFirst,
+        };
+        assert!(rt; cell_ok(b"ab", 0, text, &ranges));
+        assert!(rt; !cell_ok(b" b", 0, text, &ranges));
     }
 }

@@ -71,7 +71,7 @@ pub fn read_columns(
     let mut t = 0;
     for row in layout.rows {
         let c = column_in(*row);
-        let read = cursor.cell(line, c, layout, flags, values, k);
+        let read = cursor.cell_within(line, c, layout, flags, values, k);
         let bytes = &line[cursor.at..read.next.at];
         store(read.value?, bytes, flags, values, k, text, t);
         k += slots_in(c);

@@ -9,7 +9,7 @@ use super::cube::{EVENT_COLUMNS, EVENT_ROWS, Parts, read_line};
 use super::ranges::EVENT_RANGES;
 use columns::bytes::first_barred;
 use columns::column::{column_in, width_in};
-use columns::judge::cell_ok;
+use columns::judge::cell_ok_within;
 
 // The columns of a table of integers and text, judged after the first `start` bytes of the line, and the check sum of three bytes of
 // `head` for each: neither waits for the other, so that the processor works at both. No sum where a column is refused.
@@ -21,7 +21,7 @@ fn judge_sealed(line: &[u8], start: usize, head: &[u8], rows: &[u32], ranges: &[
     let mut at = start;
     for (i, row) in rows.iter().enumerate() {
         let c = column_in(*row);
-        if !cell_ok(line, at, c, ranges) {
+        if !cell_ok_within(line, at, c, ranges) {
             return None;
         }
         sum = with_three(sum, head, 3 * i);

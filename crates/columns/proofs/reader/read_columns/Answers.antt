@@ -31,8 +31,8 @@ overflow_add-t c =
     let g = going_row a.layout.now.rows.now a.layout.now.ranges.now a.layout.now.letters.now l.row-index x.result c.loop-row-test.true x.ensures.0 l.invariant in
     omega (arith, table_t g.ready c.texts_in.result (c.texts_in.ensures ∙ sym w.chars), c.well_formed)
 
-pub cell-read-requires : goal.cell-read-requires
-cell-read-requires c =
+pub cell_within-read-requires : goal.cell_within-read-requires
+cell_within-read-requires c =
     let a = c.args in
     let l = c.loop-row in
     let x = c.column_in-c in
@@ -41,7 +41,7 @@ cell-read-requires c =
     (wider x.result x.ensures.1, turn_readable g)
 
 pub slice_bounds-bytes-start : goal.slice_bounds-bytes-start
-slice_bounds-bytes-start c = omega (arith, c.cell-read.ensures.next)
+slice_bounds-bytes-start c = omega (arith, c.cell_within-read.ensures.next)
 
 pub slice_bounds-bytes-end : goal.slice_bounds-bytes-end
 slice_bounds-bytes-end c =
@@ -50,7 +50,7 @@ slice_bounds-bytes-end c =
     let x = c.column_in-c in
     let w = sizes x.result a.layout.now.ranges.now a.layout.now.letters.now in
     let g = going_row a.layout.now.rows.now a.layout.now.ranges.now a.layout.now.letters.now l.row-index x.result c.loop-row-test.true x.ensures.0 l.invariant in
-    omega (arith, c.cell-read.ensures.next, w.wide, table_fits g.ready _ refl)
+    omega (arith, c.cell_within-read.ensures.next, w.wide, table_fits g.ready _ refl)
 
 pub returns-in_err-read : goal.returns-in_err-read
 returns-in_err-read c =
@@ -61,7 +61,7 @@ returns-in_err-read c =
     let g = going_row a.layout.now.rows.now a.layout.now.ranges.now a.layout.now.letters.now l.row-index x.result c.loop-row-test.true x.ensures.0 l.invariant in
     let p = err_from_is_err_and c.from_residual.result c.from_residual.ensures.1 in
     let b = part_bytes a.line.now l.cursor.at (width_by x.result) in
-    rw (p.1, p.2) (turn_refused g _ (ap (λ (m : ℕ). take m (drop l.cursor.at a.line.now)) (b.0 ∙ sym w.wide)) _ (rw (c.in_err-read.was, b.1) at c.cell-read.ensures.answer))
+    rw (p.1, p.2) (turn_refused g _ (ap (λ (m : ℕ). take m (drop l.cursor.at a.line.now)) (b.0 ∙ sym w.wide)) _ (rw (c.in_err-read.was, b.1) at c.cell_within-read.ensures.answer))
 
 pub store-requires : goal.store-requires
 store-requires c =
@@ -71,7 +71,7 @@ store-requires c =
     let w = sizes x.result a.layout.now.ranges.now a.layout.now.letters.now in
     let g = going_row a.layout.now.rows.now a.layout.now.ranges.now a.layout.now.letters.now l.row-index x.result c.loop-row-test.true x.ensures.0 l.invariant in
     let b = part_bytes a.line.now l.cursor.at (width_by x.result) in
-    rw c.cell-read.ensures.next (turn_storable g _ (ap (λ (m : ℕ). take m (drop l.cursor.at a.line.now)) (b.0 ∙ sym w.wide)) c.in_ok-read.field-0 (rw (c.in_ok-read.was, b.1) at c.cell-read.ensures.answer))
+    rw c.cell_within-read.ensures.next (turn_storable g _ (ap (λ (m : ℕ). take m (drop l.cursor.at a.line.now)) (b.0 ∙ sym w.wide)) c.in_ok-read.field-0 (rw (c.in_ok-read.was, b.1) at c.cell_within-read.ensures.answer))
 
 pub loop-row-preserved : goal.loop-row-preserved
 loop-row-preserved c =
@@ -81,7 +81,7 @@ loop-row-preserved c =
     let w = sizes x.result a.layout.now.ranges.now a.layout.now.letters.now in
     let g = going_row a.layout.now.rows.now a.layout.now.ranges.now a.layout.now.letters.now l.row-index x.result c.loop-row-test.true x.ensures.0 l.invariant in
     let b = part_bytes a.line.now l.cursor.at (width_by x.result) in
-    turn_done g _ (ap (λ (m : ℕ). take m (drop l.cursor.at a.line.now)) (b.0 ∙ sym w.wide)) c.in_ok-read.field-0 (rw (c.in_ok-read.was, b.1) at c.cell-read.ensures.answer) _ _ _ (c.cell-read.ensures.next ∙ ap (λ (m : ℕ). l.cursor.at + m) (sym w.wide)) (ap (λ (m : ℕ). l.k + m) (c.slots_in.ensures ∙ sym w.numbers)) (ap (λ (m : ℕ). l.t + m) (c.texts_in.ensures ∙ sym w.chars)) (rw c.cell-read.ensures.next at c.store.ensures)
+    turn_done g _ (ap (λ (m : ℕ). take m (drop l.cursor.at a.line.now)) (b.0 ∙ sym w.wide)) c.in_ok-read.field-0 (rw (c.in_ok-read.was, b.1) at c.cell_within-read.ensures.answer) _ _ _ (c.cell_within-read.ensures.next ∙ ap (λ (m : ℕ). l.cursor.at + m) (sym w.wide)) (ap (λ (m : ℕ). l.k + m) (c.slots_in.ensures ∙ sym w.numbers)) (ap (λ (m : ℕ). l.t + m) (c.texts_in.ensures ∙ sym w.chars)) (rw c.cell_within-read.ensures.next at c.store.ensures)
 
 pub returns : goal.returns
 returns c =

@@ -14,21 +14,21 @@ loop-i-init c =
     let a = c.args in
     (search rules, refl, left_start (columns_of a.rows.now a.ranges.now []) a.start a.line.now c.requires.0)
 
-pub cell_ok-requires : goal.cell_ok-requires
-cell_ok-requires c =
+pub cell_ok_within-requires : goal.cell_ok_within-requires
+cell_ok_within-requires c =
     let a = c.args in
     let l = c.loop-i in
     let x = c.column_in-c in
     let g = left_row a.rows.now a.ranges.now [] l.i x.result c.loop-i-test.true x.ensures.0 l.invariant.2 in
     (wider x.result x.ensures.1, (left_good g).0, (left_simple g, (left_room g, omega (arith, left_fits g, (sizes x.result a.ranges.now []).wide))))
 
-pub returns-then-not-cell_ok : goal.returns-then-not-cell_ok
-returns-then-not-cell_ok c =
+pub returns-then-not-cell_ok_within : goal.returns-then-not-cell_ok_within
+returns-then-not-cell_ok_within c =
     let a = c.args in
     let l = c.loop-i in
     let x = c.column_in-c in
     let g = left_row a.rows.now a.ranges.now [] l.i x.result c.loop-i-test.true x.ensures.0 l.invariant.2 in
-    left_refused g _ (sym (sizes x.result a.ranges.now []).wide) (rw c.if-not-cell_ok.true at c.cell_ok.ensures)
+    left_refused g _ (sym (sizes x.result a.ranges.now []).wide) (rw c.if-not-cell_ok_within.true at c.cell_ok_within.ensures)
 
 pub loop-i-preserved : goal.loop-i-preserved
 loop-i-preserved c =
@@ -39,7 +39,7 @@ loop-i-preserved c =
     let z : 3 * l.i + 3 ≡ 3 * (l.i + 1) = omega arith in (
       search rules,
       rw z at c.with_three-sum.ensures ∙ l.invariant.1,
-      rw c.width_in-at.ensures (left_next g _ (sym (sizes x.result a.ranges.now []).wide) (rw c.if-not-cell_ok.false at c.cell_ok.ensures)),
+      rw c.width_in-at.ensures (left_next g _ (sym (sizes x.result a.ranges.now []).wide) (rw c.if-not-cell_ok_within.false at c.cell_ok_within.ensures)),
     )
 
 pub returns : goal.returns

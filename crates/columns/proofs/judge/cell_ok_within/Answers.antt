@@ -13,7 +13,7 @@ use Rattle.columns.proofs.laws.Bytes.{slice_is}
 use Rattle.columns.proofs.laws.Table.{good_text}
 use Rattle.columns.proofs.laws.Form.{good_int, form_integer}
 use Rattle.columns.proofs.laws.Judge.{day_looks, number_judged, text_judged}
-use Rattle.columns.proofs.judge.cell_ok.Goals as goal
+use Rattle.columns.proofs.judge.cell_ok_within.Goals as goal
 
 pub read_int-field-requires : goal.read_int-field-requires
 read_int-field-requires c =
